@@ -1,0 +1,4 @@
+pub mod Reading
+pub mod Passing
+pub mod Spelling
+pub mod Proper

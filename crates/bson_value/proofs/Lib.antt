@@ -1,0 +1,5 @@
+pub mod Depth
+pub mod Digits
+pub mod Child
+pub mod Alike
+pub mod Distinct

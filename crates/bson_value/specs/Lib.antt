@@ -1,0 +1,4 @@
+pub mod Digits
+pub mod Place
+pub mod Alike
+pub mod Distinct

@@ -1,0 +1,81 @@
+//! Copies of values.
+ghost use Rattle.std.specs.Prelude.{◌≡◌, IfOk};
+
+use containers::{CText, Fields, List};
+use crate::value::Value;
+use std::alloc::{AllocError, Global};
+
+impl Value {
+    /// An equal value.
+    #[cycle(copy)]
+    pub fn copy(&self, alloc: Global) -> Result<Value, AllocError>
+        ensures { IfOk result (λ v. v ≡ self.now) }
+    {
+        match self {
+            Value::Double(d) => Ok(Value::Double(*d)),
+            Value::Str(text) => Ok(Value::Str(text.copy(alloc)?)),
+            Value::Object(doc) => Ok(Value::Object(copy_fields(alloc, doc)?)),
+            Value::Array(items) => Ok(Value::Array(copy_items(alloc, items.as_slice())?)),
+            Value::Binary { subtype, bytes } => Ok(Value::Binary {
+                subtype: *subtype,
+                bytes: bytes.copy(alloc)?,
+            }),
+            Value::Undefined => Ok(Value::Undefined),
+            Value::Oid(id) => Ok(Value::Oid(*id)),
+            Value::Bool(b) => Ok(Value::Bool(*b)),
+            Value::Date(n) => Ok(Value::Date(*n)),
+            Value::Null => Ok(Value::Null),
+            Value::Regex { pattern, options } => Ok(Value::Regex {
+                pattern: pattern.copy(alloc)?,
+                options: options.copy(alloc)?,
+            }),
+            Value::DbPointer { ns, id } => Ok(Value::DbPointer {
+                ns: ns.copy(alloc)?,
+                id: *id,
+            }),
+            Value::Code(text) => Ok(Value::Code(text.copy(alloc)?)),
+            Value::Symbol(text) => Ok(Value::Symbol(text.copy(alloc)?)),
+            Value::ScopedCode { code, scope } => Ok(Value::ScopedCode {
+                code: code.copy(alloc)?,
+                scope: copy_fields(alloc, scope)?,
+            }),
+            Value::Int(n) => Ok(Value::Int(*n)),
+            Value::Stamp(ts) => Ok(Value::Stamp(*ts)),
+            Value::Long(n) => Ok(Value::Long(*n)),
+            Value::Decimal(d) => Ok(Value::Decimal(*d)),
+            Value::MinKey => Ok(Value::MinKey),
+            Value::MaxKey => Ok(Value::MaxKey),
+        }
+    }
+}
+
+#[cycle(copy)]
+fn copy_items(alloc: Global, items: &[Value]) -> Result<List<Value>, AllocError>
+    ensures { IfOk result (λ list. list ≡ items.now) }
+{
+    let mut list = List::new(alloc);
+    for item in items {
+        list.push(item.copy(alloc)?)?;
+    }
+    Ok(list)
+}
+
+#[cycle(copy)]
+fn copy_fields(alloc: Global, doc: &Fields<Value>) -> Result<Fields<Value>, AllocError>
+    ensures { IfOk result (λ copy. copy ≡ doc.now) }
+{
+    let mut entries = Vec::new(alloc);
+    for entry in doc.entries() {
+        entries.push(copy_entry(alloc, entry)?)?;
+    }
+    Ok(Fields::of_distinct(entries))
+}
+
+#[cycle(copy)]
+fn copy_entry(alloc: Global, entry: &(CText, Value)) -> Result<(CText, Value), AllocError>
+    ensures { IfOk result (λ copy. copy ≡ entry.now) }
+{
+    let name = entry.0.copy(alloc)?;
+    let value = entry.1.copy(alloc)?;
+    Ok((name, value))
+}
