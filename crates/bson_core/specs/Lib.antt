@@ -1,4 +1,2 @@
-pub mod Reading
-pub mod Passing
 pub mod Spelling
 pub mod Proper

@@ -2,3 +2,4 @@ pub mod Digits
 pub mod Place
 pub mod Alike
 pub mod Distinct
+pub mod Levels

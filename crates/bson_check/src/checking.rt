@@ -2,11 +2,11 @@
 ghost use Rattle.std.specs.Prelude.{◌≡◌, ◌+◌, ◌<◌, ◌≤◌, [], ◌∷◌, ◌++◌, length, List, ℕ, IfOk, drop};
 ghost use Rattle.containers.specs.Entries.{names_of};
 ghost use Rattle.bson_value.specs.declared.value.Value.{Value};
-ghost use Rattle.bson_core.specs.Reading.{Reads, named, rests, void, field_at, item_at, fields_at, items_at, value_at, document_at, array_at, scoped_at, document_of};
-ghost use Rattle.bson_core.specs.Passing.{count_of, past_zero, jump, upto_zero, first_name, passed, Path, has, is_above, repeat_at, fault_of, head_at};
+ghost use Rattle.bson_check.specs.Reading.{Reads, named, rests, void, field_at, item_at, fields_at, items_at, value_at, document_at, array_at, scoped_at, document_of};
+ghost use Rattle.bson_check.specs.Passing.{count_of, past_zero, jump, upto_zero, first_name, passed, Path, has, is_above, repeat_at, fault_of, head_at};
 
 use crate::fault::{BsonFault, BsonKind};
-use crate::reading::{as_text, binary, boolean, fault, frame, int, is_type, name, number_of, pointer, regex, run, text, total, zero_place};
+use crate::parts::{as_text, binary, boolean, fault, frame, int, is_type, name, number_of, pointer, regex, run, text, total, zero_place};
 use std::cmp::Ordering;
 
 #[tactic(auto, unfolding(crate::specs::Passing::count_of))]

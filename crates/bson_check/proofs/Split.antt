@@ -3,15 +3,15 @@ use Rattle.std.proofs.Common.{◌≡◌, ℕ, zero, suc, ◌+◌, ◌-◌, ◌<�
 use Rattle.std.specs.Prelude.{Option, Some, None}
 use Rattle.std.specs.Str.{is_utf8}
 use Rattle.std.proofs.lemmas.List.{append-nil}
-use Rattle.bson_core.specs.declared.fault.BsonFault.{BsonFault}
-use Rattle.bson_core.specs.declared.fault.BsonKind.TheVariants as kinds
-use Rattle.bson_core.specs.declared.fault.DecodeFault.TheVariants as errors
+use Rattle.bson_check.specs.declared.fault.BsonFault.{BsonFault}
+use Rattle.bson_check.specs.declared.fault.BsonKind.TheVariants as kinds
+use Rattle.bson_check.specs.declared.fault.DecodeFault.TheVariants as errors
 use Rattle.bson_value.specs.declared.value.Value.{Value}
 use Rattle.containers.specs.Entries.{names_of}
-use Rattle.bson_core.specs.Reading.{◌>>=◌, Taken, Reader, place, fails, name_at, named, is_type, field_at, void}
-use Rattle.bson_core.specs.Passing.{first_name, passed, Path, has, Tops, repeat_at, head_at, fault_of}
-use Rattle.bson_core.proofs.Loop.{FieldsLeft, field_goes_on, field_ends, fields_done}
-use Rattle.bson_core.proofs.Walk.{known_is, not_known, path_push, names_of-push}
+use Rattle.bson_check.specs.Reading.{◌>>=◌, Taken, Reader, place, fails, name_at, named, is_type, field_at, void}
+use Rattle.bson_check.specs.Passing.{first_name, passed, Path, has, Tops, repeat_at, head_at, fault_of}
+use Rattle.bson_check.proofs.Loop.{FieldsLeft, field_goes_on, field_ends, fields_done}
+use Rattle.bson_check.proofs.Walk.{known_is, not_known, path_push, names_of-push}
 
 abbrev pub found_or : Option ℕ → Bool → ℕ → Option ℕ
 found_or (Some q) b p = Some q

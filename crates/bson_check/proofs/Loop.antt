@@ -1,10 +1,10 @@
 -- Reading elements one after the other, as a loop does.
 use Rattle.std.proofs.Common.{◌≡◌, ℕ, zero, suc, ◌≤◌, List, [], ◌∷◌, ◌++◌, length, Result, Ok, Err, refl, sym, ap, arith}
-use Rattle.bson_core.specs.declared.fault.BsonFault.{BsonFault}
-use Rattle.bson_core.specs.declared.fault.DecodeFault.{DecodeFault}
-use Rattle.bson_core.specs.declared.fault.DecodeFault.TheVariants as errors
+use Rattle.bson_check.specs.declared.fault.BsonFault.{BsonFault}
+use Rattle.bson_check.specs.declared.fault.DecodeFault.{DecodeFault}
+use Rattle.bson_check.specs.declared.fault.DecodeFault.TheVariants as errors
 use Rattle.bson_value.specs.declared.value.Value.{Value}
-use Rattle.bson_core.specs.Reading.{◌>>=◌, Fails, Reader, field_at, item_at, fields_at, items_at}
+use Rattle.bson_check.specs.Reading.{◌>>=◌, Fails, Reader, field_at, item_at, fields_at, items_at}
 
 -- reading on from here gives the total, in some number of turns
 pub record FieldsLeft (read : Reader) (end : ℕ) (done : List (List ℕ × Value)) (rest : List ℕ) (total : Result (List (List ℕ × Value)) BsonFault) : Type 0 where

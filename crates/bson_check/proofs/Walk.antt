@@ -7,14 +7,14 @@ use Rattle.std.proofs.lemmas.Cmp.{nat_list_cmp_total}
 use Rattle.std.specs.Str.{is_utf8, bytes_eq}
 use Rattle.std.specs.List.{position_from}
 use Rattle.std.proofs.lemmas.Slice.Eq.{bytes_eq-Decides}
-use Rattle.bson_core.specs.declared.fault.BsonFault.{BsonFault}
-use Rattle.bson_core.specs.declared.fault.BsonKind.TheVariants as kinds
-use Rattle.bson_core.specs.declared.fault.DecodeFault.TheVariants as errors
+use Rattle.bson_check.specs.declared.fault.BsonFault.{BsonFault}
+use Rattle.bson_check.specs.declared.fault.BsonKind.TheVariants as kinds
+use Rattle.bson_check.specs.declared.fault.DecodeFault.TheVariants as errors
 use Rattle.bson_value.specs.declared.value.Value.{Value}
 use Rattle.containers.specs.Entries.{names_of, place_of}
-use Rattle.bson_core.specs.Reading.{◌>>=◌, Taken, Frame, Reader, place, fails, closed, rests, void, split_zero, name_at, named, unless_there, is_type, field_at, item_at, fields_at, items_at}
-use Rattle.bson_core.specs.Passing.{before, upto_zero, first_name, passed, Path, has, Tops, is_above}
-use Rattle.bson_core.proofs.Loop.{FieldsLeft, ItemsLeft, field_goes_on, field_ends, fields_done, item_goes_on, item_ends, items_done}
+use Rattle.bson_check.specs.Reading.{◌>>=◌, Taken, Frame, Reader, place, fails, closed, rests, void, split_zero, name_at, named, unless_there, is_type, field_at, item_at, fields_at, items_at}
+use Rattle.bson_check.specs.Passing.{before, upto_zero, first_name, passed, Path, has, Tops, is_above}
+use Rattle.bson_check.proofs.Loop.{FieldsLeft, ItemsLeft, field_goes_on, field_ends, fields_done, item_goes_on, item_ends, items_done}
 
 -- ---- names on the way
 

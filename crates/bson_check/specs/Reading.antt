@@ -5,11 +5,11 @@ use Rattle.std.specs.Int.{w32, w64, from_le_bytes, cast_signed}
 use Rattle.std.specs.List.{position_from}
 use Rattle.std.specs.Str.{is_utf8}
 use Rattle.containers.specs.Entries.{place_of}
-use Rattle.bson_core.specs.declared.fault.BsonFault.{BsonFault}
-use Rattle.bson_core.specs.declared.fault.BsonKind.{BsonKind}
-use Rattle.bson_core.specs.declared.fault.BsonKind.TheVariants as kinds
-use Rattle.bson_core.specs.declared.fault.DecodeFault.{DecodeFault}
-use Rattle.bson_core.specs.declared.fault.DecodeFault.TheVariants as errors
+use Rattle.bson_check.specs.declared.fault.BsonFault.{BsonFault}
+use Rattle.bson_check.specs.declared.fault.BsonKind.{BsonKind}
+use Rattle.bson_check.specs.declared.fault.BsonKind.TheVariants as kinds
+use Rattle.bson_check.specs.declared.fault.DecodeFault.{DecodeFault}
+use Rattle.bson_check.specs.declared.fault.DecodeFault.TheVariants as errors
 use Rattle.bson_value.specs.declared.value.Ts.{Ts}
 use Rattle.bson_value.specs.declared.value.Value.{Value}
 use Rattle.bson_value.specs.declared.value.Value.TheVariants as values

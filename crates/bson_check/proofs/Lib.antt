@@ -1,0 +1,4 @@
+pub mod Loop
+pub mod Walk
+pub mod Split
+pub mod Texts

@@ -1,0 +1,9 @@
+//! Whether bytes are a document of BSON, and else the first fault.
+#![tactic(auto)]
+
+mod checking;
+mod fault;
+pub mod parts;
+
+pub use checking::check;
+pub use fault::{BsonFault, BsonKind, DecodeFault};
