@@ -2,8 +2,10 @@
 #![tactic(auto)]
 
 mod copy;
+mod fields;
 mod names;
 mod value;
 
-pub use containers::{Bytes, CText, Fields, List, Text};
+pub use containers::{Bytes, CText, List, Text};
+pub use fields::Fields;
 pub use value::{Doc, Ts, Value};

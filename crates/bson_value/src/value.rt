@@ -1,7 +1,8 @@
 //! Values and documents.
 ghost use Rattle.std.specs.Prelude.{◌≡◌, ◌↔◌, IsTrue, IfOk};
 
-use containers::{Bytes, CText, Fields, List, Text};
+use crate::fields::Fields;
+use containers::{Bytes, CText, List, Text};
 use std::alloc::{AllocError, Global};
 
 /// A document: names and values, with distinct names at every level.

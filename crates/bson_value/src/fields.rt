@@ -2,10 +2,10 @@
 ghost use Rattle.std.specs.Prelude.{◌≡◌, [], ◌∷◌, ◌++◌, ◌<◌, List, ℕ, length, slice_get, slice_set, remove, OnOk, OnErr, option_map, IfSome, IfNone};
 ghost use Rattle.std.specs.Option.{option_copied};
 ghost use Rattle.std.specs.Borrow.{Lends, sem};
-ghost use Rattle.containers.specs.contracts.fields.Fields.{the_row as fields_row};
+ghost use Rattle.bson_value.specs.contracts.fields.Fields.{the_row as fields_row};
 ghost use Rattle.containers.specs.Entries.{IsAbsent, AreDistinct, names_of, place_of, lookup, put, without, with_value};
 
-use crate::text::CText;
+use containers::CText;
 use std::alloc::{AllocError, Global};
 use std::marker::Model;
 use std::mem;
@@ -85,7 +85,7 @@ impl<T> Fields<T> {
     }
 
     /// The place of this name.
-    #[tactic(auto, using(crate::proofs::Entries::none_is_absent))]
+    #[tactic(auto, using(containers::proofs::Entries::none_is_absent))]
     pub fn place(&self, name: &str) -> Option<usize>
         ensures place { result ≡ place_of name.now self.now }
         ensures within { IfSome result (λ at. at < length self.now) }
