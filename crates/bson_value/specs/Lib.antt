@@ -5,3 +5,4 @@ pub mod Alike
 pub mod Distinct
 pub mod Levels
 pub mod Spelling
+pub mod Namespace
