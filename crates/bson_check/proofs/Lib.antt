@@ -6,3 +6,4 @@ pub mod Cutting
 pub mod Again
 pub mod Found
 pub mod Height
+pub mod Whole

@@ -1,6 +1,6 @@
 -- The grammar of BSON: which bytes spell which document.
 -- A number has its low byte first. A length is a signed number, so it is below 2 ^ 31.
-use Rattle.std.specs.Prelude.{◌≡◌, ℕ, zero, suc, ◌+◌, ◌<◌, ◌≤◌, ◌^◌, ℤ, true, List, [], ◌∷◌, ◌++◌, length, Contains, if◌then◌else◌}
+use Rattle.std.specs.Prelude.{◌≡◌, ℕ, zero, suc, ◌+◌, ◌<◌, ◌≤◌, ◌^◌, ◌↔◌, ℤ, true, List, [], ◌∷◌, ◌++◌, length, Contains, if◌then◌else◌}
 use Rattle.std.specs.Int.{Width, w32, w64, byte_len, from_le_bytes, cast_signed}
 use Rattle.std.specs.Str.{is_utf8}
 use Rattle.containers.specs.Entries.{AreDistinct, names_of}
@@ -112,3 +112,11 @@ pub record SpellsWithin (max depth : ℕ) (bytes : List ℕ) (fs : List (List �
 -- some document of at most so many bytes and levels is spelled
 abbrev pub IsSomeDocument : ℕ → ℕ → List ℕ → Type 0
 IsSomeDocument max depth bytes = (fs : List (List ℕ × Value)) × SpellsWithin max depth bytes fs
+
+-- the law that bytes spell one document at most
+abbrev pub SpelledOnce : Type 0
+SpelledOnce = (bytes : List ℕ) (fs gs : List (List ℕ × Value)) → Spells bytes fs → Spells bytes gs → fs ≡ gs
+
+-- the law that levels are enough exactly where there are as many as the document has
+abbrev pub LevelsNeeded : Type 0
+LevelsNeeded = (n : ℕ) (bytes : List ℕ) (fs : List (List ℕ × Value)) → IsDocument n bytes fs ↔ (((m : ℕ) × IsDocument m bytes fs) × (levels_of fs ≤ n))
