@@ -23,7 +23,7 @@ use Rattle.std.specs.Str.Parse.{AllDigits}
 use Rattle.std.proofs.lemmas.Fmt.{decimal_is_IsNumeral}
 use Rattle.bson_check.specs.declared.fault.BsonFault.{BsonFault}
 use Rattle.bson_check.specs.Reading.{◌>>=◌, run_at, long_of, number, place, Frame, frame_at, name_at, named, is_type, Reader, field_at, fields_at, item_at, items_at, int_at, bool_at, text_at, value_at, value_with, document_at, array_at, document_of}
-use Rattle.bson_core.specs.Spelling.{count_bytes, framed, element, spelling, tag_of, spelled, elements_of, items_of, numbered, text_bytes, document_text, Typed, spelling_step}
+use Rattle.bson_value.specs.Spelling.{count_bytes, framed, element, spelling, tag_of, spelled, elements_of, items_of, numbered, text_bytes, document_text, Typed, spelling_step}
 
 count_len : (n : ℕ) → length (count_bytes n) ≡ 4
 count_len n = refl

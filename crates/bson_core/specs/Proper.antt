@@ -4,7 +4,7 @@ use Rattle.std.specs.Int.{w32, w64}
 use Rattle.std.specs.Str.{is_utf8}
 use Rattle.std.specs.List.{position_from, AllByRecursion}
 use Rattle.containers.specs.Entries.{AreDistinct, names_of}
-use Rattle.bson_core.specs.Spelling.{elements_of, items_of}
+use Rattle.bson_value.specs.Spelling.{elements_of, items_of}
 use Rattle.bson_value.specs.declared.value.Value.{Value, out-Value}
 use Rattle.bson_value.specs.declared.value.Value.TheOpen.{Value-F}
 

@@ -4,7 +4,7 @@ ghost use Rattle.std.specs.Str.{is_utf8};
 ghost use Rattle.std.specs.List.{position_from};
 ghost use Rattle.containers.specs.Entries.{IsAbsent, names_of};
 ghost use Rattle.bson_core.specs.Proper.{IsDocument};
-ghost use Rattle.bson_core.specs.Spelling.{document_text};
+ghost use Rattle.bson_value.specs.Spelling.{document_text};
 ghost use Rattle.bson_check.specs.Passing.{count_of, past_zero, upto_zero};
 ghost use Rattle.bson_check.specs.Reading.{Gives, Reads, number, int_at, bool_at, text_at, frame_at, Frame, name_at, named, is_type, field_at, item_at, fields_at, items_at, value_at, document_at, array_at, scoped_at, document_of, run_at, long_of, stamp_of, raw_at, binary_at, cut_at, regex_at, pointer_at, scope_at, total_at, Scoped};
 

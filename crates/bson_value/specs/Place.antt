@@ -114,3 +114,7 @@ put_under k (j ∷ q) a v = into (put_under j q a) v k (child v k)
 unfoldable pub put_at : Place → Value → Value → Value
 put_at [] a v = v
 put_at (k ∷ q) a v = put_under k q a v
+
+-- at every place of the two values the same stands
+abbrev pub LooksTheSame : Value → Value → Type 0
+LooksTheSame a b = (q : Place) → look (Some a) q ≡ look (Some b) q

@@ -1,14 +1,16 @@
 //! Values and documents.
 ghost use Rattle.std.specs.Prelude.{◌≡◌, ◌↔◌, IsTrue, IfOk};
 
-use containers::{Bytes, CText, Fields, List, Text};
+use crate::fields::Fields;
+use containers::{Bytes, CText, List, Text};
 use std::alloc::{AllocError, Global};
 
 /// A document: names and values, with distinct names at every level.
 pub type Doc = Fields<Value>;
 
-/// A stamp of the oplog.
-#[derive(Clone, Copy, Debug, PartialEq, Eq)]
+/// A timestamp of the oplog: seconds since 1970, and an ordinal among those of one second. It is
+/// ordered by the seconds first.
+#[derive(Clone, Copy, Debug, PartialEq, Eq, PartialOrd, Ord)]
 pub struct Ts {
     pub secs: u32,
     pub inc: u32,

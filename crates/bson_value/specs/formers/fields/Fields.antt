@@ -17,10 +17,10 @@ use Rattle.std.specs.declared.alloc.Global.{Global}
 use Rattle.std.specs.contracts.alloc.Global as heap
 use Rattle.std.specs.contracts.impls.GlobalAllocator.TheImpl.{ghosts}
 use Rattle.containers.specs.contracts.text.CText as ctext
-use Rattle.containers.specs.declared.fields.Fields.TheInside.{Inside}
-use Rattle.containers.specs.declared.fields.Fields.TheView.{view, invariant}
-use Rattle.containers.specs.contracts.fields.Fields as C
-use Rattle.containers.specs.contracts.fields.Fields.TheInside as I
+use Rattle.bson_value.specs.declared.fields.Fields.TheInside.{Inside}
+use Rattle.bson_value.specs.declared.fields.Fields.TheView.{view, invariant}
+use Rattle.bson_value.specs.contracts.fields.Fields as C
+use Rattle.bson_value.specs.contracts.fields.Fields.TheInside as I
 
 abbrev entry : Former {0} → Former {0}
 entry g = pair (const (List ℕ)) g

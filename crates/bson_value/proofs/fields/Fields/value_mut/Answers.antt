@@ -1,7 +1,7 @@
 use Rattle.std.proofs.Common.{◌<◌, length, ap, ◌∙◌, refl}
 use Rattle.containers.specs.Entries.{with_value}
 use Rattle.containers.proofs.Entries.{wrote, read_value}
-use Rattle.containers.proofs.fields.Fields.value_mut.Goals as goal
+use Rattle.bson_value.proofs.fields.Fields.value_mut.Goals as goal
 
 pub invariant_of-self-lent : goal.invariant_of-self-lent
 invariant_of-self-lent g c = λ w.

@@ -1,7 +1,7 @@
 use Rattle.std.proofs.Common.{refl, length, sym, ◌∙◌}
 use Rattle.std.proofs.lemmas.Option.{slice_get_read}
 use Rattle.containers.proofs.Entries.{place_is, has_not, distinct_remove}
-use Rattle.containers.proofs.fields.Fields.remove.Goals as goal
+use Rattle.bson_value.proofs.fields.Fields.remove.Goals as goal
 
 pub invariant_of-self : goal.invariant_of-self
 invariant_of-self g c = rw c.remove-value.ensures.items (distinct_remove c.self.inside.entries.items c.in-Some.at c.self.invariant)

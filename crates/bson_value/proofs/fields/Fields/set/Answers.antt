@@ -1,6 +1,6 @@
 use Rattle.std.proofs.Common.{sym, ◌∙◌}
 use Rattle.containers.proofs.Entries.{place_is, has_not, distinct_push}
-use Rattle.containers.proofs.fields.Fields.set.Goals as goal
+use Rattle.bson_value.proofs.fields.Fields.set.Goals as goal
 
 pub invariant_of-self-in-None : goal.invariant_of-self-in-None
 invariant_of-self-in-None g c =

@@ -1,7 +1,7 @@
 use Rattle.std.proofs.Common.{◌<◌, length, ap, ◌∙◌}
 use Rattle.containers.specs.Entries.{with_value}
 use Rattle.containers.proofs.Entries.{wrote}
-use Rattle.containers.proofs.fields.Fields.replace.Goals as goal
+use Rattle.bson_value.proofs.fields.Fields.replace.Goals as goal
 
 pub invariant_of-self : goal.invariant_of-self
 invariant_of-self g c =

@@ -2,10 +2,10 @@
 ghost use Rattle.std.specs.Prelude.{◌≡◌, [], ◌∷◌, ◌++◌, ◌<◌, List, ℕ, length, slice_get, slice_set, remove, OnOk, OnErr, option_map, IfSome, IfNone};
 ghost use Rattle.std.specs.Option.{option_copied};
 ghost use Rattle.std.specs.Borrow.{Lends, sem};
-ghost use Rattle.containers.specs.contracts.fields.Fields.{the_row as fields_row};
+ghost use Rattle.bson_value.specs.contracts.fields.Fields.{the_row as fields_row};
 ghost use Rattle.containers.specs.Entries.{IsAbsent, AreDistinct, names_of, place_of, lookup, put, without, with_value};
 
-use crate::text::CText;
+use containers::CText;
 use std::alloc::{AllocError, Global};
 use std::marker::Model;
 use std::mem;
@@ -31,6 +31,7 @@ impl<T> Model for Fields<T> {
 }
 
 impl<T> Fields<T> {
+    /// The empty list. It takes no memory.
     pub fn new(alloc: Global) -> Fields<T>
         ensures { result ≡ [] }
     {
@@ -39,6 +40,7 @@ impl<T> Fields<T> {
         }
     }
 
+    /// These entries, in their own memory.
     pub fn of_distinct(entries: Vec<(CText, T)>) -> Fields<T>
         requires { AreDistinct (names_of entries.items) }
         ensures { result ≡ entries.items }
@@ -46,6 +48,7 @@ impl<T> Fields<T> {
         Fields { entries }
     }
 
+    /// The number of entries.
     pub fn len(&self) -> usize
         ensures count { result ≡ length self.now }
         ensures distinct { AreDistinct (names_of self.now) }
@@ -85,7 +88,7 @@ impl<T> Fields<T> {
     }
 
     /// The place of this name.
-    #[tactic(auto, using(crate::proofs::Entries::none_is_absent))]
+    #[tactic(auto, using(containers::proofs::Entries::none_is_absent))]
     pub fn place(&self, name: &str) -> Option<usize>
         ensures place { result ≡ place_of name.now self.now }
         ensures within { IfSome result (λ at. at < length self.now) }
@@ -103,6 +106,17 @@ impl<T> Fields<T> {
         }
     }
 
+    /// What this name names. It is looked for at this place first, and then from the front.
+    pub fn get_near(&self, at: usize, name: &str) -> Option<&T>
+        ensures { option_copied result ≡ lookup name.now self.now }
+    {
+        if at < self.len() && self.name(at) == name {
+            return Some(self.value(at));
+        }
+        self.get(name)
+    }
+
+    /// The value at this place, lent for writing.
     pub fn value_mut(&mut self, at: usize) -> &mut T
         requires { at < length self.old }
         ensures* writes_back { sem 𝓛 (Lends (fields_row T.row) T.row self.entry result (with_value self.old at)) }
