@@ -1,8 +1,11 @@
 //! Checking a document without taking memory.
-ghost use Rattle.std.specs.Prelude.{◌≡◌, ◌+◌, ◌<◌, ◌≤◌, [], ◌∷◌, ◌++◌, length, List, ℕ, IfOk, drop};
+ghost use Rattle.std.specs.Prelude.{◌≡◌, ◌+◌, ◌<◌, ◌≤◌, [], ◌∷◌, ◌++◌, ◌↔◌, length, List, ℕ, IfOk, IsOk, drop};
+ghost use Rattle.std.specs.Result.{result_err};
 ghost use Rattle.containers.specs.Entries.{names_of};
 ghost use Rattle.bson_value.specs.declared.value.Value.{Value};
 ghost use Rattle.bson_check.specs.Reading.{Reads, named, rests, void, field_at, item_at, fields_at, items_at, value_at, document_at, array_at, scoped_at, document_of};
+ghost use Rattle.bson_check.specs.Spells.{IsSomeDocument};
+ghost use Rattle.bson_check.specs.Faults.{first_fault};
 ghost use Rattle.bson_check.specs.Passing.{count_of, past_zero, jump, upto_zero, first_name, passed, Path, has, is_above, repeat_at, fault_of, head_at};
 
 use crate::fault::{BsonFault, BsonKind};
@@ -325,9 +328,8 @@ fn items(levels: usize, end: usize, body: &[u8]) -> Result<(), BsonFault>
     Ok(())
 }
 
-/// Whether the bytes, all of them, are one document within the limits: else the first fault, the one that `decode` answers.
 #[tactic(auto, unfolding(crate::specs::Reading::document_of))]
-pub fn check(bytes: &[u8], max: usize, depth: usize) -> Result<(), BsonFault>
+fn whole(bytes: &[u8], max: usize, depth: usize) -> Result<(), BsonFault>
     ensures { Reads (λ u. u) result (void (document_of max depth bytes.now)) }
 {
     let len = bytes.len();
@@ -349,4 +351,14 @@ pub fn check(bytes: &[u8], max: usize, depth: usize) -> Result<(), BsonFault>
     }
     document(depth, len, bytes)?;
     Ok(())
+}
+
+/// Whether the bytes, all of them, are one document of at most `max` bytes and `depth` levels. Else it
+/// answers the first fault from the left, with its place in the bytes.
+pub fn check(bytes: &[u8], max: usize, depth: usize) -> Result<(), BsonFault>
+    ensures spelled { IsOk result ↔ IsSomeDocument max depth bytes.now }
+    ensures fault { result_err result ≡ first_fault max depth bytes.now }
+    ensures exact { Reads (λ u. u) result (void (document_of max depth bytes.now)) }
+{
+    whole(bytes, max, depth)
 }

@@ -3,6 +3,7 @@
 
 mod checking;
 mod fault;
+pub mod laws;
 pub mod parts;
 
 pub use checking::check;
