@@ -4,7 +4,9 @@
 mod checking;
 mod fault;
 pub mod laws;
+mod length;
 pub mod parts;
 
 pub use checking::check;
+pub use length::{MAX_DOCUMENT_BYTES, doc_len};
 pub use fault::{BsonFault, BsonKind, DecodeFault};
