@@ -1,4 +1,5 @@
 pub mod Loop
 pub mod Walk
 pub mod Split
+pub mod Search
 pub mod Texts

@@ -4,6 +4,8 @@
 mod checking;
 mod fault;
 pub mod parts;
+pub mod passing;
+pub mod repeats;
 
 pub use checking::check;
 pub use fault::{BsonFault, BsonKind, DecodeFault};
