@@ -1,13 +1,12 @@
 -- What was spelled is read again.
-use Rattle.std.proofs.Common.{◌≡◌, ℕ, zero, suc, ◌+◌, ◌-◌, ◌<◌, ◌≤◌, ◌^◌, ◌%◌, Bool, true, false, cond, ltb, eqb, List, [], ◌∷◌, ◌++◌, length, take, drop, map, get_or, slice_index, refl, sym, ap, subst, ◌∙◌, append_assoc, add-zero, zero-add, arith, Result, Ok, Err}
-use Rattle.std.specs.Int.{w32, w64, to_le_bytes, from_le_bytes, cast_unsigned, cast_signed}
+use Rattle.std.proofs.Common.{◌≡◌, ℕ, zero, suc, ◌+◌, ◌-◌, ◌<◌, ◌≤◌, ◌^◌, ◌%◌, Bool, true, false, ltb, eqb, List, [], ◌∷◌, ◌++◌, length, take, drop, map, slice_index, refl, sym, ap, subst, ◌∙◌, append_assoc, add-zero, zero-add, arith, Ok}
+use Rattle.std.specs.Int.{w32, w64, to_le_bytes, cast_unsigned, cast_signed}
 use Rattle.std.proofs.lemmas.List.{take_at, drop_at, get_or_at, length-append, length-map, append-nil}
 use Rattle.std.proofs.lemmas.Nat.{from_le_bytes-to_le_bytes_4, from_le_bytes-to_le_bytes_8}
 use Rattle.std.proofs.lemmas.Bool.{le-ltb}
 use Rattle.std.proofs.Math.Dec.{eqb-suc-zero}
 use Rattle.std.proofs.Math.Facts.{to_z-of_z, Fits-of_z}
 use Rattle.std.proofs.lemmas.Bool.{ne_eqb}
-use Rattle.std.proofs.lemmas.List.Concat.{flat_map-cons}
 use Rattle.std.specs.Prelude.{◌==◌, None, Some, ℤ, FitsSigned}
 use Rattle.std.specs.List.{position_from, AllByRecursion}
 use Rattle.std.specs.Str.{is_utf8, bytes_eq}
@@ -21,9 +20,8 @@ use Rattle.bson_value.specs.declared.value.Value.TheVariants.{rolls-Null, rolls-
 use Rattle.std.specs.Fmt.{decimal}
 use Rattle.std.specs.Str.Parse.{AllDigits}
 use Rattle.std.proofs.lemmas.Fmt.{decimal_is_IsNumeral}
-use Rattle.bson_check.specs.declared.fault.BsonFault.{BsonFault}
-use Rattle.bson_check.specs.Reading.{◌>>=◌, run_at, long_of, number, place, Frame, frame_at, name_at, named, is_type, Reader, field_at, fields_at, item_at, items_at, int_at, bool_at, text_at, value_at, value_with, document_at, array_at, document_of}
-use Rattle.bson_value.specs.Spelling.{count_bytes, framed, element, spelling, tag_of, spelled, elements_of, items_of, numbered, text_bytes, document_text, Typed, spelling_step}
+use Rattle.bson_check.specs.Reading.{run_at, long_of, number, place, frame_at, name_at, named, is_type, Reader, field_at, fields_at, item_at, items_at, int_at, bool_at, text_at, value_at, value_with, document_at, array_at, document_of}
+use Rattle.bson_value.specs.Spelling.{count_bytes, framed, spelling, tag_of, spelled, elements_of, items_of, numbered, text_bytes, document_text, Typed, spelling_step}
 
 count_len : (n : ℕ) → length (count_bytes n) ≡ 4
 count_len n = refl
