@@ -3,8 +3,9 @@
 
 mod checking;
 mod fault;
-pub mod laws;
+mod laws;
 pub mod parts;
 
 pub use checking::check;
 pub use fault::{BsonFault, BsonKind, DecodeFault};
+pub use laws::{faultless_if_spelled, levels_needed, spelled_once};
