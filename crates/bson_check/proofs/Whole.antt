@@ -48,9 +48,10 @@ no_fault (Err f) e = absurd cc
 
 pub faultless_if_spelled : FaultlessIfSpelled
 unfolding first_fault
-faultless_if_spelled max depth bytes =
-    ((λ e. let r = no_fault (document_of max depth bytes) e in (r.0, read_is_spelled max depth bytes r.0 r.1)),
-     (λ s. ap result_err (spelled_is_read max depth bytes s.0 s.1)))
+faultless_if_spelled max depth bytes = (
+  (λ e. let r = no_fault (document_of max depth bytes) e in (r.0, read_is_spelled max depth bytes r.0 r.1)),
+  (λ s. ap result_err (spelled_is_read max depth bytes s.0 s.1)),
+)
 
 -- ---- what check answers
 
