@@ -4,8 +4,10 @@
 mod checking;
 mod fault;
 mod laws;
+mod length;
 pub mod parts;
 
 pub use checking::check;
+pub use length::{MAX_DOCUMENT_BYTES, doc_len};
 pub use fault::{BsonFault, BsonKind, DecodeFault};
 pub use laws::{faultless_if_spelled, levels_needed, spelled_once};

@@ -5,3 +5,4 @@ pub mod Alike
 pub mod Distinct
 pub mod Unordered
 pub mod FirstDot
+pub mod Sizes

@@ -6,3 +6,4 @@ pub mod Distinct
 pub mod Levels
 pub mod Spelling
 pub mod Namespace
+pub mod Size

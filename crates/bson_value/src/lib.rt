@@ -7,6 +7,7 @@ mod laws;
 mod names;
 mod namespace;
 mod order;
+mod size;
 mod value;
 
 pub use containers::{Bytes, CText, List, Text};
