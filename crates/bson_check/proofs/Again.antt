@@ -82,13 +82,13 @@ text_again : (end : ℕ) (b t rest : List ℕ) → IsString b t → text_at end 
 text_again end b t rest s =
     let w = begins s.0 t rest s.1.four in
     subst (λ (x : List ℕ). text_at end (x ++ rest) ≡ Ok (t, rest)) (sym s.3)
-      (text_begins end ((s.0 ++ t ++ 0 ∷ []) ++ rest) s.0 t rest w (number_begins ((s.0 ++ t ++ 0 ∷ []) ++ rest) s.0 t rest (length t + 1) w s.1) s.2)
+    (text_begins end ((s.0 ++ t ++ 0 ∷ []) ++ rest) s.0 t rest w (number_begins ((s.0 ++ t ++ 0 ∷ []) ++ rest) s.0 t rest (length t + 1) w s.1) s.2)
 
 raw_again : (at : ℕ) (b t rest : List ℕ) → IsString b t → raw_at at (b ++ rest) ≡ Ok (t, rest)
 raw_again at b t rest s =
     let w = begins s.0 t rest s.1.four in
     subst (λ (x : List ℕ). raw_at at (x ++ rest) ≡ Ok (t, rest)) (sym s.3)
-      (raw_begins at ((s.0 ++ t ++ 0 ∷ []) ++ rest) s.0 t rest w (number_begins ((s.0 ++ t ++ 0 ∷ []) ++ rest) s.0 t rest (length t + 1) w s.1))
+    (raw_begins at ((s.0 ++ t ++ 0 ∷ []) ++ rest) s.0 t rest w (number_begins ((s.0 ++ t ++ 0 ∷ []) ++ rest) s.0 t rest (length t + 1) w s.1))
 
 pointer_again : (end : ℕ) (b t d rest : List ℕ) → IsString b t → length d ≡ 12 → pointer_at end ((b ++ d) ++ rest) ≡ Ok ((t, d), rest)
 unfolding pointer_at
@@ -115,9 +115,9 @@ binary_again end s count d rest c =
     let five : length (count ++ s ∷ []) ≡ 5 = omega (arith, length-append count (s ∷ []), c.four) in
     let all : length (count ++ s ∷ d) ≡ length d + 5 = omega (arith, length-append count (s ∷ d), c.four) in
     binary_begins end (length d) s bytes d rest (ap number whole ∙ number_front count (s ∷ (d ++ rest)) (length d) c) (omega (arith, length-append (count ++ s ∷ d) rest, all))
-      (ap (λ (x : List ℕ). slice_index x 4) whole ∙ get_or_at count s (d ++ rest) 0 4 c.four)
-      (ap (λ (x : List ℕ). take (length d) (drop 5 x)) ahead ∙ ap (λ (x : List ℕ). take (length d) x) (drop_at (count ++ s ∷ []) (d ++ rest) 5 five) ∙ take_at d rest (length d) refl)
-      (drop_at (count ++ s ∷ d) rest (length d + 5) all)
+    (ap (λ (x : List ℕ). slice_index x 4) whole ∙ get_or_at count s (d ++ rest) 0 4 c.four)
+    (ap (λ (x : List ℕ). take (length d) (drop 5 x)) ahead ∙ ap (λ (x : List ℕ). take (length d) x) (drop_at (count ++ s ∷ []) (d ++ rest) 5 five) ∙ take_at d rest (length d) refl)
+    (drop_at (count ++ s ∷ d) rest (length d + 5) all)
 
 -- ---- what a zero ends
 
@@ -188,7 +188,7 @@ frame_again levels end b body rest s =
     let bytes = (s.0 ++ body ++ 0 ∷ []) ++ rest in
     let len : length b ≡ length body + 5 = ap length s.2 ∙ frame_len s.0 body s.1.four in
     subst (λ (x : List ℕ). Framed (suc levels) end x body rest) (sym s.2)
-      (place end bytes + (number bytes - 1), frame_begins levels end bytes s.0 body rest w (number_begins bytes s.0 body rest (length b) w s.1 ∙ len))
+    (place end bytes + (number bytes - 1), frame_begins levels end bytes s.0 body rest w (number_begins bytes s.0 body rest (length b) w s.1 ∙ len))
 
 -- a frame with nothing behind it
 frame_alone : (b body : List ℕ) (s : IsFrame b body) → Begins b s.0 body []
@@ -237,13 +237,13 @@ total_again levels end b total string scope code body rest c s f e =
     let n : length b ≡ 4 + length (string ++ scope) = ap length e ∙ outer in
     let k : length b - 4 ≡ length (string ++ scope) = omega (arith, n) in
     subst (λ (x : List ℕ). Totalled (suc levels) end x code body rest) (sym e)
-      (total_begins levels end (length b) bytes string scope code body rest
-        (ap number whole ∙ number_front total ((string ++ scope) ++ rest) (length b) c)
-        (omega (arith, n, inner, ls, lf))
-        (omega (arith, n, outer, length-append (total ++ (string ++ scope)) rest))
-        (ap (λ (x : List ℕ). take (length b - 4) (drop 4 x)) whole ∙ ap (λ (x : List ℕ). take (length b - 4) x) (drop_at total ((string ++ scope) ++ rest) 4 four) ∙ take_at (string ++ scope) rest (length b - 4) (sym k))
-        (drop_at (total ++ (string ++ scope)) rest (length b) (outer ∙ sym n))
-        s f)
+    (total_begins levels end (length b) bytes string scope code body rest
+    (ap number whole ∙ number_front total ((string ++ scope) ++ rest) (length b) c)
+    (omega (arith, n, inner, ls, lf))
+    (omega (arith, n, outer, length-append (total ++ (string ++ scope)) rest))
+    (ap (λ (x : List ℕ). take (length b - 4) (drop 4 x)) whole ∙ ap (λ (x : List ℕ). take (length b - 4) x) (drop_at total ((string ++ scope) ++ rest) 4 four) ∙ take_at (string ++ scope) rest (length b - 4) (sym k))
+    (drop_at (total ++ (string ++ scope)) rest (length b) (outer ∙ sym n))
+    s f)
 
 -- ---- elements
 
@@ -358,8 +358,8 @@ mutual
   document_again (suc levels) end b fs rest h =
       let f = frame_again levels end b h.0 rest h.1 in
       let all = fields_again (λ c v. AreBytesOf (IsDocument levels) (IsArray levels) c (out-Value v)) (value_at levels)
-            (value_again (IsDocument levels) (IsArray levels) (document_at levels) (array_at levels) (scoped_at levels) (document_again levels) (array_again levels) (scoped_again levels))
-            (length h.0) f.0 [] fs h.0 (omega arith) h.2 h.3 in
+      (value_again (IsDocument levels) (IsArray levels) (document_at levels) (array_at levels) (scoped_at levels) (document_again levels) (array_again levels) (scoped_again levels))
+      (length h.0) f.0 [] fs h.0 (omega arith) h.2 h.3 in
       rw (f.1, all) refl
 
   pub array_again : (levels end : ℕ) (b : List ℕ) (vs : List Value) (rest : List ℕ) → IsArray levels b vs → array_at levels end (b ++ rest) ≡ Ok (vs, rest)
@@ -367,8 +367,8 @@ mutual
   array_again (suc levels) end b vs rest h =
       let f = frame_again levels end b h.0 rest h.1 in
       let all = items_again (λ c v. AreBytesOf (IsDocument levels) (IsArray levels) c (out-Value v)) (value_at levels)
-            (value_again (IsDocument levels) (IsArray levels) (document_at levels) (array_at levels) (scoped_at levels) (document_again levels) (array_again levels) (scoped_again levels))
-            (length h.0) f.0 [] vs h.0 (omega arith) h.2 in
+      (value_again (IsDocument levels) (IsArray levels) (document_at levels) (array_at levels) (scoped_at levels) (document_again levels) (array_again levels) (scoped_again levels))
+      (length h.0) f.0 [] vs h.0 (omega arith) h.2 in
       rw (f.1, all) refl
 
   pub scoped_again : (levels end : ℕ) (b t : List ℕ) (fs : List (List ℕ × Value)) (rest : List ℕ) → AreBytesOf (IsDocument levels) (IsArray levels) b (Value-F.ScopedCode t fs) → scoped_at levels end (b ++ rest) ≡ Ok ((t, fs), rest)
@@ -377,8 +377,8 @@ mutual
       let g = h.5 in
       let f = total_again levels end b h.0 h.1 h.2 t g.0 rest h.3 h.4 g.1 h.6 in
       let all = fields_again (λ c v. AreBytesOf (IsDocument levels) (IsArray levels) c (out-Value v)) (value_at levels)
-            (value_again (IsDocument levels) (IsArray levels) (document_at levels) (array_at levels) (scoped_at levels) (document_again levels) (array_again levels) (scoped_again levels))
-            (length g.0) f.0 [] fs g.0 (omega arith) g.2 g.3 in
+      (value_again (IsDocument levels) (IsArray levels) (document_at levels) (array_at levels) (scoped_at levels) (document_again levels) (array_again levels) (scoped_again levels))
+      (length g.0) f.0 [] fs g.0 (omega arith) g.2 g.3 in
       rw (f.1, all) refl
 
 -- a document says how many bytes it has

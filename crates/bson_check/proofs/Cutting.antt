@@ -73,6 +73,6 @@ splits bytes k le z =
     let j : k + 4 + 1 ≡ k + 5 = omega arith in
     let lt : k + 4 < length bytes = omega arith in
     let behind : drop k (drop 4 bytes) ≡ 0 ∷ rest =
-        drop-drop k 4 bytes ∙ ap (λ (n : ℕ). drop n bytes) i ∙ drop_more bytes (k + 4) 0 lt ∙ ap (λ (x : ℕ). x ∷ drop (k + 4 + 1) bytes) z ∙ ap (λ (n : ℕ). 0 ∷ drop n bytes) j in
+    drop-drop k 4 bytes ∙ ap (λ (n : ℕ). drop n bytes) i ∙ drop_more bytes (k + 4) 0 lt ∙ ap (λ (x : ℕ). x ∷ drop (k + 4 + 1) bytes) z ∙ ap (λ (n : ℕ). 0 ∷ drop n bytes) j in
     let middle : drop 4 bytes ≡ body ++ (0 ∷ rest) = sym (take-append-drop k (drop 4 bytes)) ∙ ap (λ (xs : List ℕ). body ++ xs) behind in
     sym (take-append-drop 4 bytes) ∙ ap (λ (xs : List ℕ). count ++ xs) middle ∙ sym (append_assoc count body (0 ∷ rest)) ∙ sym (append_assoc (count ++ body) (0 ∷ []) rest)

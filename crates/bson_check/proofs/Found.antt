@@ -100,7 +100,7 @@ pointer_found end bytes x e =
     let le : 12 ≤ length ns.1 = ltb-false _ _ b.0 in
     let whole : bytes ≡ (string ++ take 12 ns.1) ++ drop 12 ns.1 = s.parts ∙ ap (λ (r : List ℕ). string ++ r) (sym (take-append-drop 12 ns.1)) ∙ sym (append_assoc string (take 12 ns.1) (drop 12 ns.1)) in
     subst (λ (y : (List ℕ × List ℕ) × List ℕ). (s : List ℕ) × IsString s y.0.0 × (length y.0.1 ≡ 12) × (bytes ≡ (s ++ y.0.1) ++ y.1)) (ok_is ((ns.0, take 12 ns.1), drop 12 ns.1) x c.1)
-      (string, (s.count, s.is_count, c.0, refl), omega (arith, length-take 12 ns.1), whole)
+    (string, (s.count, s.is_count, c.0, refl), omega (arith, length-take 12 ns.1), whole)
 
 binary_found : (end : ℕ) (bytes : List ℕ) (x : (ℕ × List ℕ) × List ℕ) → binary_at end bytes ≡ Ok x → (count : List ℕ) × IsCount count (length x.0.1) × (bytes ≡ (count ++ x.0.0 ∷ x.0.1) ++ x.1)
 unfolding binary_at
@@ -120,7 +120,7 @@ binary_found end bytes x e =
     let last : drop 5 bytes ≡ d ++ rest = sym (take-append-drop n (drop 5 bytes)) ∙ ap (λ (r : List ℕ). d ++ r) behind in
     let whole : bytes ≡ (count ++ s ∷ d) ++ rest = parts_at bytes 4 (omega arith) ∙ ap (λ (r : List ℕ). count ++ (s ∷ r)) last ∙ sym (append_assoc count (s ∷ d) rest) in
     subst (λ (y : (ℕ × List ℕ) × List ℕ). (c : List ℕ) × IsCount c (length y.0.1) × (bytes ≡ (c ++ y.0.0 ∷ y.0.1) ++ y.1)) (ok_is ((s, d), rest) x b.1)
-      (count, subst (λ (m : ℕ). IsCount count m) len (count_found bytes (omega arith)), whole)
+    (count, subst (λ (m : ℕ). IsCount count m) len (count_found bytes (omega arith)), whole)
 
 -- ---- what a zero ends
 
@@ -188,7 +188,7 @@ regex_found end bytes x e =
     let second = cut_found at p.1 o b.1 in
     let whole : bytes ≡ ((p.0 ++ 0 ∷ []) ++ (o.0 ++ 0 ∷ [])) ++ o.1 = first.parts ∙ ap (λ (r : List ℕ). (p.0 ++ 0 ∷ []) ++ r) second.parts ∙ sym (append_assoc (p.0 ++ 0 ∷ []) (o.0 ++ 0 ∷ []) o.1) in
     subst (λ (y : (List ℕ × List ℕ) × List ℕ). IsName y.0.0 × IsName y.0.1 × (bytes ≡ ((y.0.0 ++ 0 ∷ []) ++ (y.0.1 ++ 0 ∷ [])) ++ y.1)) (ok_is ((p.0, o.0), o.1) x d.1)
-      (record { utf8 = c.0; no_zero = first.no_zero }, record { utf8 = d.0; no_zero = second.no_zero }, whole)
+    (record { utf8 = c.0; no_zero = first.no_zero }, record { utf8 = d.0; no_zero = second.no_zero }, whole)
 
 -- ---- frames
 
@@ -217,7 +217,7 @@ frame_found levels end bytes f e =
     let t = neither (ltb n 5) (ltb (length bytes) n) b.0 in
     let made : Frame = record { body = take (n - 5) (drop 4 bytes); stop = place end bytes + (n - 1); last = slice_index bytes (n - 1); after = drop n bytes } in
     subst (λ (g : Frame). g.last ≡ 0 → (b : List ℕ) × IsFrame b g.body × (bytes ≡ b ++ g.after)) (ok_is made f c.1)
-      (λ z. frame_of bytes (ltb-false _ _ t.0) (ltb-false _ _ t.1) z)
+    (λ z. frame_of bytes (ltb-false _ _ t.0) (ltb-false _ _ t.1) z)
 
 no_level : (end : ℕ) (bytes : List ℕ) (f : Frame) → frame_at 0 end bytes ≡ Ok f → ⊥
 unfolding frame_at
@@ -246,17 +246,17 @@ scope_found levels at stop after code bytes s e =
     let low : 5 ≤ n = ltb-false _ _ a.0 in
     let made : Scoped = record { code = code; scope = record { body = take (n - 5) (drop 4 bytes); stop = stop; last = slice_index bytes (n - 1); after = after } } in
     subst (λ (g : Scoped). g.scope.last ≡ 0 → TookScope bytes code after g) (ok_is made s d.1)
-      (λ z.
-        let f = frame_of bytes (omega (arith, is, low)) (omega (arith, is)) (ap (λ (m : ℕ). slice_index bytes (m - 1)) is ∙ z) in
-        let body : take (number bytes - 5) (drop 4 bytes) ≡ take (n - 5) (drop 4 bytes) = ap (λ (m : ℕ). take (m - 5) (drop 4 bytes)) is in
-        let rest : drop (number bytes) bytes ≡ [] = ap (λ (m : ℕ). drop m bytes) is ∙ drop-length bytes in
-        let all : f.0 ≡ bytes = sym (append-nil f.0) ∙ ap (λ (r : List ℕ). f.0 ++ r) (sym rest) ∙ sym f.2 in
-        record {
-          frame = subst (λ (x : List ℕ). IsFrame bytes x) body (subst (λ (x : List ℕ). IsFrame x (take (number bytes - 5) (drop 4 bytes))) all f.1);
-          utf8 = d.0;
-          code_is = refl;
-          after_is = refl;
-        })
+    (λ z.
+    let f = frame_of bytes (omega (arith, is, low)) (omega (arith, is)) (ap (λ (m : ℕ). slice_index bytes (m - 1)) is ∙ z) in
+    let body : take (number bytes - 5) (drop 4 bytes) ≡ take (n - 5) (drop 4 bytes) = ap (λ (m : ℕ). take (m - 5) (drop 4 bytes)) is in
+    let rest : drop (number bytes) bytes ≡ [] = ap (λ (m : ℕ). drop m bytes) is ∙ drop-length bytes in
+    let all : f.0 ≡ bytes = sym (append-nil f.0) ∙ ap (λ (r : List ℕ). f.0 ++ r) (sym rest) ∙ sym f.2 in
+    record {
+      frame = subst (λ (x : List ℕ). IsFrame bytes x) body (subst (λ (x : List ℕ). IsFrame x (take (number bytes - 5) (drop 4 bytes))) all f.1);
+      utf8 = d.0;
+      code_is = refl;
+      after_is = refl;
+    })
 
 -- a code with its scope
 pub record TookScoped (bytes : List ℕ) (s : Scoped) : Type 0 where
@@ -292,7 +292,7 @@ total_found levels end bytes s e z =
     let behind : drop (n - 4) (drop 4 bytes) ≡ drop n bytes = drop-drop (n - 4) 4 bytes ∙ ap (λ (m : ℕ). drop m bytes) i in
     let last : drop 4 bytes ≡ inner ++ drop n bytes = sym (take-append-drop (n - 4) (drop 4 bytes)) ∙ ap (λ (x : List ℕ). inner ++ x) behind in
     let whole : bytes ≡ b ++ drop n bytes =
-        sym (take-append-drop 4 bytes) ∙ ap (λ (x : List ℕ). count ++ x) last ∙ sym (append_assoc count inner (drop n bytes)) ∙ ap (λ (x : List ℕ). (count ++ x) ++ drop n bytes) r.parts in
+    sym (take-append-drop 4 bytes) ∙ ap (λ (x : List ℕ). count ++ x) last ∙ sym (append_assoc count inner (drop n bytes)) ∙ ap (λ (x : List ℕ). (count ++ x) ++ drop n bytes) r.parts in
     let len : n ≡ length b = omega (arith, length-append count (string ++ code.1), ap length r.parts, length-take 4 bytes, length-take (n - 4) (drop 4 bytes), length-drop 4 bytes, low, high) in
     record {
       spelling = b;
@@ -402,9 +402,12 @@ module _ (V : List ℕ → Value → Type 0) (read : Reader) (finds : (tag end :
       let x = a.0 in
       let f = field_found end done tag bytes x a.1 in
       let less : length x.1 ≤ turns = omega (arith, le, ap length f.parts, length-append (x.0.0 ++ 0 ∷ []) (f.spelling ++ x.1), length-append f.spelling x.1) in
-      let more = fields_found turns end (done ++ x.0 ∷ []) x.1 out less (distinct_push done x.0.0 x.0.1 f.fresh d) a.2 in
-      (x.0 ∷ more.0, sym (append_assoc done (x.0 ∷ []) more.0) ∙ more.1, more.2,
-        (f.spelling, x.1, f.name, f.spells, more.3, ap (λ (t : ℕ). t ∷ bytes) f.kind ∙ ap (λ (r : List ℕ). type_byte (out-Value x.0.1) ∷ r) f.parts))
+      let more = fields_found turns end (done ++ x.0 ∷ []) x.1 out less (distinct_push done x.0.0 x.0.1 f.fresh d) a.2 in (
+        x.0 ∷ more.0,
+        sym (append_assoc done (x.0 ∷ []) more.0) ∙ more.1,
+        more.2,
+        (f.spelling, x.1, f.name, f.spells, more.3, ap (λ (t : ℕ). t ∷ bytes) f.kind ∙ ap (λ (r : List ℕ). type_byte (out-Value x.0.1) ∷ r) f.parts),
+      )
 
   items_found : (turns end : ℕ) (done : List Value) (body : List ℕ) (out : List Value) → length body ≤ turns → items_at read turns end done body ≡ Ok out
       → (vs : List Value) × (done ++ vs ≡ out) × AreItems V body vs
@@ -416,9 +419,11 @@ module _ (V : List ℕ → Value → Type 0) (read : Reader) (finds : (tag end :
       let x = a.0 in
       let f = item_found end tag bytes x a.1 in
       let less : length x.1 ≤ turns = omega (arith, le, ap length f.parts, length-append (f.name ++ 0 ∷ []) (f.spelling ++ x.1), length-append f.spelling x.1) in
-      let more = items_found turns end (done ++ x.0 ∷ []) x.1 out less a.2 in
-      (x.0 ∷ more.0, sym (append_assoc done (x.0 ∷ []) more.0) ∙ more.1,
-        (f.name, f.spelling, x.1, f.no_zero, f.spells, more.2, ap (λ (t : ℕ). t ∷ bytes) f.kind ∙ ap (λ (r : List ℕ). type_byte (out-Value x.0) ∷ r) f.parts))
+      let more = items_found turns end (done ++ x.0 ∷ []) x.1 out less a.2 in (
+        x.0 ∷ more.0,
+        sym (append_assoc done (x.0 ∷ []) more.0) ∙ more.1,
+        (f.name, f.spelling, x.1, f.no_zero, f.spells, more.2, ap (λ (t : ℕ). t ∷ bytes) f.kind ∙ ap (λ (r : List ℕ). type_byte (out-Value x.0) ∷ r) f.parts),
+      )
 
 -- ---- values
 
@@ -436,7 +441,7 @@ int_found end bytes x e =
     let c = count_found bytes (ltb-false _ _ a.0) in
     let z = cast_signed w32 (number bytes) in
     subst (λ (y : Value × List ℕ). (b : List ℕ) × (z : ℤ) × IsSigned w32 b z × (y.0 ≡ values.Int z) × (bytes ≡ b ++ y.1)) (ok_is (values.Int z, drop 4 bytes) x a.1)
-      (take 4 bytes, z, record { count = c.four; value = ap (λ (n : ℕ). cast_signed w32 n) c.value }, refl, sym (take-append-drop 4 bytes))
+    (take 4 bytes, z, record { count = c.four; value = ap (λ (n : ℕ). cast_signed w32 n) c.value }, refl, sym (take-append-drop 4 bytes))
 
 stamp_found : (run : List ℕ) → length run ≡ 8 → (low high : List ℕ) × IsCount low (stamp_of run).inc × IsCount high (stamp_of run).secs × (run ≡ low ++ high)
 stamp_found run eight =
@@ -485,28 +490,91 @@ module _ (D : List ℕ → List (List ℕ × Value) → Type 0) (A : List ℕ �
   value_found : (tag end : ℕ) (bytes : List ℕ) (x : Value × List ℕ) → value_with document array scoped tag end bytes ≡ Ok x → Took tag bytes x
   unfolding value_with
   value_found tag end bytes x e0 =
-      elim (chosen (eqb tag 1) _ _ _ (e0)) [ inl h ↦ of_run 8 tag end bytes (λ d. Value-F.Double d) (λ d. values.Double d) x h.1 (λ d l. (sym (rolls-Double d), eqb-true tag 1 h.0, (l, refl))) | inr n1 ↦
-      elim (chosen (eqb tag 2) _ _ _ (n1.1)) [ inl h ↦ of_text tag end bytes (λ t. Value-F.Str t) (λ t. values.Str t) x h.1 (λ b t s. (sym (rolls-Str t), eqb-true tag 2 h.0, s)) | inr n2 ↦
-      elim (chosen (eqb tag 3) _ _ _ (n2.1)) [ inl h ↦ let a = bind_ok (document end bytes) _ x h.1 in let r = documents end bytes a.0 a.1 in read_so tag bytes (Value-F.Object a.0.0) (values.Object a.0.0) a.0.1 r.0 x a.2 (sym (rolls-Object a.0.0)) (eqb-true tag 3 h.0) r.1 r.2 | inr n3 ↦
-      elim (chosen (eqb tag 4) _ _ _ (n3.1)) [ inl h ↦ let a = bind_ok (array end bytes) _ x h.1 in let r = arrays end bytes a.0 a.1 in read_so tag bytes (Value-F.Array a.0.0) (values.Array a.0.0) a.0.1 r.0 x a.2 (sym (rolls-Array a.0.0)) (eqb-true tag 4 h.0) r.1 r.2 | inr n4 ↦
-      elim (chosen (eqb tag 5) _ _ _ (n4.1)) [ inl h ↦ let a = bind_ok (binary_at end bytes) _ x h.1 in let r = binary_found end bytes a.0 a.1 in read_so tag bytes (Value-F.Binary a.0.0.0 a.0.0.1) (values.Binary a.0.0.0 a.0.0.1) a.0.1 (r.0 ++ a.0.0.0 ∷ a.0.0.1) x a.2 (sym (rolls-Binary a.0.0.0 a.0.0.1)) (eqb-true tag 5 h.0) (r.0, r.1, refl) r.2 | inr n5 ↦
-      elim (chosen (eqb tag 6) _ _ _ (n5.1)) [ inl h ↦ of_nothing tag bytes Value-F.Undefined values.Undefined x h.1 (sym rolls-Undefined) (eqb-true tag 6 h.0) refl | inr n6 ↦
-      elim (chosen (eqb tag 7) _ _ _ (n6.1)) [ inl h ↦ of_run 12 tag end bytes (λ d. Value-F.Oid d) (λ d. values.Oid d) x h.1 (λ d l. (sym (rolls-Oid d), eqb-true tag 7 h.0, (l, refl))) | inr n7 ↦
-      elim (chosen (eqb tag 8) _ _ _ (n7.1)) [ inl h ↦ let r = bool_found end bytes x h.1 in rolled tag bytes (Value-F.Bool r.0) x.0 x.1 ((if r.0 then 1 else 0) ∷ []) (r.1 ∙ sym (rolls-Bool r.0)) (eqb-true tag 8 h.0) refl r.2 | inr n8 ↦
-      elim (chosen (eqb tag 9) _ _ _ (n8.1)) [ inl h ↦ of_run 8 tag end bytes (λ d. Value-F.Date (long_of d)) (λ d. values.Date (long_of d)) x h.1 (λ d l. (sym (rolls-Date (long_of d)), eqb-true tag 9 h.0, record { count = l; value = refl })) | inr n9 ↦
-      elim (chosen (eqb tag 10) _ _ _ (n9.1)) [ inl h ↦ of_nothing tag bytes Value-F.Null values.Null x h.1 (sym rolls-Null) (eqb-true tag 10 h.0) refl | inr n10 ↦
-      elim (chosen (eqb tag 11) _ _ _ (n10.1)) [ inl h ↦ let a = bind_ok (regex_at end bytes) _ x h.1 in let r = regex_found end bytes a.0 a.1 in read_so tag bytes (Value-F.Regex a.0.0.0 a.0.0.1) (values.Regex a.0.0.0 a.0.0.1) a.0.1 ((a.0.0.0 ++ 0 ∷ []) ++ (a.0.0.1 ++ 0 ∷ [])) x a.2 (sym (rolls-Regex a.0.0.0 a.0.0.1)) (eqb-true tag 11 h.0) (r.0, r.1, refl) r.2 | inr n11 ↦
-      elim (chosen (eqb tag 12) _ _ _ (n11.1)) [ inl h ↦ let a = bind_ok (pointer_at end bytes) _ x h.1 in let r = pointer_found end bytes a.0 a.1 in read_so tag bytes (Value-F.DbPointer a.0.0.0 a.0.0.1) (values.DbPointer a.0.0.0 a.0.0.1) a.0.1 (r.0 ++ a.0.0.1) x a.2 (sym (rolls-DbPointer a.0.0.0 a.0.0.1)) (eqb-true tag 12 h.0) (r.0, r.1, r.2, refl) r.3 | inr n12 ↦
-      elim (chosen (eqb tag 13) _ _ _ (n12.1)) [ inl h ↦ of_text tag end bytes (λ t. Value-F.Code t) (λ t. values.Code t) x h.1 (λ b t s. (sym (rolls-Code t), eqb-true tag 13 h.0, s)) | inr n13 ↦
-      elim (chosen (eqb tag 14) _ _ _ (n13.1)) [ inl h ↦ of_text tag end bytes (λ t. Value-F.Symbol t) (λ t. values.Symbol t) x h.1 (λ b t s. (sym (rolls-Symbol t), eqb-true tag 14 h.0, s)) | inr n14 ↦
-      elim (chosen (eqb tag 15) _ _ _ (n14.1)) [ inl h ↦ let a = bind_ok (scoped end bytes) _ x h.1 in let r = codes end bytes a.0 a.1 in read_so tag bytes (Value-F.ScopedCode a.0.0.0 a.0.0.1) (values.ScopedCode a.0.0.0 a.0.0.1) a.0.1 r.0 x a.2 (sym (rolls-ScopedCode a.0.0.0 a.0.0.1)) (eqb-true tag 15 h.0) r.1 r.2 | inr n15 ↦
-      elim (chosen (eqb tag 16) _ _ _ (n15.1)) [ inl h ↦ let r = int_found end bytes x h.1 in rolled tag bytes (Value-F.Int r.1) x.0 x.1 r.0 (r.3 ∙ sym (rolls-Int r.1)) (eqb-true tag 16 h.0) r.2 r.4 | inr n16 ↦
-      elim (chosen (eqb tag 17) _ _ _ (n16.1)) [ inl h ↦ of_run 8 tag end bytes (λ d. Value-F.Stamp (stamp_of d)) (λ d. values.Stamp (stamp_of d)) x h.1 (λ d l. (sym (rolls-Stamp (stamp_of d)), eqb-true tag 17 h.0, stamp_found d l)) | inr n17 ↦
-      elim (chosen (eqb tag 18) _ _ _ (n17.1)) [ inl h ↦ of_run 8 tag end bytes (λ d. Value-F.Long (long_of d)) (λ d. values.Long (long_of d)) x h.1 (λ d l. (sym (rolls-Long (long_of d)), eqb-true tag 18 h.0, record { count = l; value = refl })) | inr n18 ↦
-      elim (chosen (eqb tag 19) _ _ _ (n18.1)) [ inl h ↦ of_run 16 tag end bytes (λ d. Value-F.Decimal d) (λ d. values.Decimal d) x h.1 (λ d l. (sym (rolls-Decimal d), eqb-true tag 19 h.0, (l, refl))) | inr n19 ↦
-      elim (chosen (eqb tag 255) _ _ _ (n19.1)) [ inl h ↦ of_nothing tag bytes Value-F.MinKey values.MinKey x h.1 (sym rolls-MinKey) (eqb-true tag 255 h.0) refl | inr n20 ↦
-      elim (chosen (eqb tag 127) _ _ _ (n20.1)) [ inl h ↦ of_nothing tag bytes Value-F.MaxKey values.MaxKey x h.1 (sym rolls-MaxKey) (eqb-true tag 127 h.0) refl | inr n21 ↦
-      absurd (cc (n21.1)) ] ] ] ] ] ] ] ] ] ] ] ] ] ] ] ] ] ] ] ] ]
+      elim (chosen (eqb tag 1) _ _ _ (e0)) [
+        | inl h ↦ of_run 8 tag end bytes (λ d. Value-F.Double d) (λ d. values.Double d) x h.1 (λ d l. (sym (rolls-Double d), eqb-true tag 1 h.0, (l, refl)))
+        | inr n1 ↦
+            elim (chosen (eqb tag 2) _ _ _ (n1.1)) [
+              | inl h ↦ of_text tag end bytes (λ t. Value-F.Str t) (λ t. values.Str t) x h.1 (λ b t s. (sym (rolls-Str t), eqb-true tag 2 h.0, s))
+              | inr n2 ↦
+                  elim (chosen (eqb tag 3) _ _ _ (n2.1)) [
+                    | inl h ↦ let a = bind_ok (document end bytes) _ x h.1 in let r = documents end bytes a.0 a.1 in read_so tag bytes (Value-F.Object a.0.0) (values.Object a.0.0) a.0.1 r.0 x a.2 (sym (rolls-Object a.0.0)) (eqb-true tag 3 h.0) r.1 r.2
+                    | inr n3 ↦
+                        elim (chosen (eqb tag 4) _ _ _ (n3.1)) [
+                          | inl h ↦ let a = bind_ok (array end bytes) _ x h.1 in let r = arrays end bytes a.0 a.1 in read_so tag bytes (Value-F.Array a.0.0) (values.Array a.0.0) a.0.1 r.0 x a.2 (sym (rolls-Array a.0.0)) (eqb-true tag 4 h.0) r.1 r.2
+                          | inr n4 ↦
+                              elim (chosen (eqb tag 5) _ _ _ (n4.1)) [
+                                | inl h ↦ let a = bind_ok (binary_at end bytes) _ x h.1 in let r = binary_found end bytes a.0 a.1 in read_so tag bytes (Value-F.Binary a.0.0.0 a.0.0.1) (values.Binary a.0.0.0 a.0.0.1) a.0.1 (r.0 ++ a.0.0.0 ∷ a.0.0.1) x a.2 (sym (rolls-Binary a.0.0.0 a.0.0.1)) (eqb-true tag 5 h.0) (r.0, r.1, refl) r.2
+                                | inr n5 ↦
+                                    elim (chosen (eqb tag 6) _ _ _ (n5.1)) [
+                                      | inl h ↦ of_nothing tag bytes Value-F.Undefined values.Undefined x h.1 (sym rolls-Undefined) (eqb-true tag 6 h.0) refl
+                                      | inr n6 ↦
+                                          elim (chosen (eqb tag 7) _ _ _ (n6.1)) [
+                                            | inl h ↦ of_run 12 tag end bytes (λ d. Value-F.Oid d) (λ d. values.Oid d) x h.1 (λ d l. (sym (rolls-Oid d), eqb-true tag 7 h.0, (l, refl)))
+                                            | inr n7 ↦
+                                                elim (chosen (eqb tag 8) _ _ _ (n7.1)) [
+                                                  | inl h ↦ let r = bool_found end bytes x h.1 in rolled tag bytes (Value-F.Bool r.0) x.0 x.1 ((if r.0 then 1 else 0) ∷ []) (r.1 ∙ sym (rolls-Bool r.0)) (eqb-true tag 8 h.0) refl r.2
+                                                  | inr n8 ↦
+                                                      elim (chosen (eqb tag 9) _ _ _ (n8.1)) [
+                                                        | inl h ↦ of_run 8 tag end bytes (λ d. Value-F.Date (long_of d)) (λ d. values.Date (long_of d)) x h.1 (λ d l. (sym (rolls-Date (long_of d)), eqb-true tag 9 h.0, record { count = l; value = refl }))
+                                                        | inr n9 ↦
+                                                            elim (chosen (eqb tag 10) _ _ _ (n9.1)) [
+                                                              | inl h ↦ of_nothing tag bytes Value-F.Null values.Null x h.1 (sym rolls-Null) (eqb-true tag 10 h.0) refl
+                                                              | inr n10 ↦
+                                                                  elim (chosen (eqb tag 11) _ _ _ (n10.1)) [
+                                                                    | inl h ↦ let a = bind_ok (regex_at end bytes) _ x h.1 in let r = regex_found end bytes a.0 a.1 in read_so tag bytes (Value-F.Regex a.0.0.0 a.0.0.1) (values.Regex a.0.0.0 a.0.0.1) a.0.1 ((a.0.0.0 ++ 0 ∷ []) ++ (a.0.0.1 ++ 0 ∷ [])) x a.2 (sym (rolls-Regex a.0.0.0 a.0.0.1)) (eqb-true tag 11 h.0) (r.0, r.1, refl) r.2
+                                                                    | inr n11 ↦
+                                                                        elim (chosen (eqb tag 12) _ _ _ (n11.1)) [
+                                                                          | inl h ↦ let a = bind_ok (pointer_at end bytes) _ x h.1 in let r = pointer_found end bytes a.0 a.1 in read_so tag bytes (Value-F.DbPointer a.0.0.0 a.0.0.1) (values.DbPointer a.0.0.0 a.0.0.1) a.0.1 (r.0 ++ a.0.0.1) x a.2 (sym (rolls-DbPointer a.0.0.0 a.0.0.1)) (eqb-true tag 12 h.0) (r.0, r.1, r.2, refl) r.3
+                                                                          | inr n12 ↦
+                                                                              elim (chosen (eqb tag 13) _ _ _ (n12.1)) [
+                                                                                | inl h ↦ of_text tag end bytes (λ t. Value-F.Code t) (λ t. values.Code t) x h.1 (λ b t s. (sym (rolls-Code t), eqb-true tag 13 h.0, s))
+                                                                                | inr n13 ↦
+                                                                                    elim (chosen (eqb tag 14) _ _ _ (n13.1)) [
+                                                                                      | inl h ↦ of_text tag end bytes (λ t. Value-F.Symbol t) (λ t. values.Symbol t) x h.1 (λ b t s. (sym (rolls-Symbol t), eqb-true tag 14 h.0, s))
+                                                                                      | inr n14 ↦
+                                                                                          elim (chosen (eqb tag 15) _ _ _ (n14.1)) [
+                                                                                            | inl h ↦ let a = bind_ok (scoped end bytes) _ x h.1 in let r = codes end bytes a.0 a.1 in read_so tag bytes (Value-F.ScopedCode a.0.0.0 a.0.0.1) (values.ScopedCode a.0.0.0 a.0.0.1) a.0.1 r.0 x a.2 (sym (rolls-ScopedCode a.0.0.0 a.0.0.1)) (eqb-true tag 15 h.0) r.1 r.2
+                                                                                            | inr n15 ↦
+                                                                                                elim (chosen (eqb tag 16) _ _ _ (n15.1)) [
+                                                                                                  | inl h ↦ let r = int_found end bytes x h.1 in rolled tag bytes (Value-F.Int r.1) x.0 x.1 r.0 (r.3 ∙ sym (rolls-Int r.1)) (eqb-true tag 16 h.0) r.2 r.4
+                                                                                                  | inr n16 ↦
+                                                                                                      elim (chosen (eqb tag 17) _ _ _ (n16.1)) [
+                                                                                                        | inl h ↦ of_run 8 tag end bytes (λ d. Value-F.Stamp (stamp_of d)) (λ d. values.Stamp (stamp_of d)) x h.1 (λ d l. (sym (rolls-Stamp (stamp_of d)), eqb-true tag 17 h.0, stamp_found d l))
+                                                                                                        | inr n17 ↦
+                                                                                                            elim (chosen (eqb tag 18) _ _ _ (n17.1)) [
+                                                                                                              | inl h ↦ of_run 8 tag end bytes (λ d. Value-F.Long (long_of d)) (λ d. values.Long (long_of d)) x h.1 (λ d l. (sym (rolls-Long (long_of d)), eqb-true tag 18 h.0, record { count = l; value = refl }))
+                                                                                                              | inr n18 ↦
+                                                                                                                  elim (chosen (eqb tag 19) _ _ _ (n18.1)) [
+                                                                                                                    | inl h ↦ of_run 16 tag end bytes (λ d. Value-F.Decimal d) (λ d. values.Decimal d) x h.1 (λ d l. (sym (rolls-Decimal d), eqb-true tag 19 h.0, (l, refl)))
+                                                                                                                    | inr n19 ↦
+                                                                                                                        elim (chosen (eqb tag 255) _ _ _ (n19.1)) [
+                                                                                                                          | inl h ↦ of_nothing tag bytes Value-F.MinKey values.MinKey x h.1 (sym rolls-MinKey) (eqb-true tag 255 h.0) refl
+                                                                                                                          | inr n20 ↦
+                                                                                                                              elim (chosen (eqb tag 127) _ _ _ (n20.1)) [
+                                                                                                                                | inl h ↦ of_nothing tag bytes Value-F.MaxKey values.MaxKey x h.1 (sym rolls-MaxKey) (eqb-true tag 127 h.0) refl
+                                                                                                                                | inr n21 ↦
+                                                                                                                                    absurd (cc (n21.1))
+                                                                                                                              ]
+                                                                                                                        ]
+                                                                                                                  ]
+                                                                                                            ]
+                                                                                                      ]
+                                                                                                ]
+                                                                                          ]
+                                                                                    ]
+                                                                              ]
+                                                                        ]
+                                                                  ]
+                                                            ]
+                                                      ]
+                                                ]
+                                          ]
+                                    ]
+                              ]
+                        ]
+                  ]
+            ]
+      ]
 
 -- ---- documents and arrays
 
@@ -533,8 +601,8 @@ mutual
       let c = holds (eqb f.last 0) _ _ x b.2 in
       let r = frame_found (suc levels) end bytes f a.1 (eqb-true _ _ c.0) in
       let fs = fields_found (λ c v. AreBytesOf (IsDocument levels) (IsArray levels) c (out-Value v)) (value_at levels)
-            (value_found (IsDocument levels) (IsArray levels) (document_at levels) (array_at levels) (scoped_at levels) (document_found levels) (array_found levels) (scoped_found levels))
-            (length f.body) f.stop [] f.body b.0 (omega arith) tt b.1 in
+      (value_found (IsDocument levels) (IsArray levels) (document_at levels) (array_at levels) (scoped_at levels) (document_found levels) (array_found levels) (scoped_found levels))
+      (length f.body) f.stop [] f.body b.0 (omega arith) tt b.1 in
       let spelled : AreFields (λ c v. AreBytesOf (IsDocument levels) (IsArray levels) c (out-Value v)) f.body b.0 = subst (λ (es : List (List ℕ × Value)). AreFields (λ c v. AreBytesOf (IsDocument levels) (IsArray levels) c (out-Value v)) f.body es) fs.1 fs.3 in
       subst (λ (y : List (List ℕ × Value) × List ℕ). FoundDocument (suc levels) bytes y) (ok_is (b.0, f.after) x c.1) (r.0, (f.body, r.1, fs.2, spelled), r.2)
 
@@ -549,8 +617,8 @@ mutual
       let c = holds (eqb f.last 0) _ _ x b.2 in
       let r = frame_found (suc levels) end bytes f a.1 (eqb-true _ _ c.0) in
       let vs = items_found (λ c v. AreBytesOf (IsDocument levels) (IsArray levels) c (out-Value v)) (value_at levels)
-            (value_found (IsDocument levels) (IsArray levels) (document_at levels) (array_at levels) (scoped_at levels) (document_found levels) (array_found levels) (scoped_found levels))
-            (length f.body) f.stop [] f.body b.0 (omega arith) b.1 in
+      (value_found (IsDocument levels) (IsArray levels) (document_at levels) (array_at levels) (scoped_at levels) (document_found levels) (array_found levels) (scoped_found levels))
+      (length f.body) f.stop [] f.body b.0 (omega arith) b.1 in
       let spelled : AreItems (λ c v. AreBytesOf (IsDocument levels) (IsArray levels) c (out-Value v)) f.body b.0 = subst (λ (ws : List Value). AreItems (λ c v. AreBytesOf (IsDocument levels) (IsArray levels) c (out-Value v)) f.body ws) vs.1 vs.2 in
       subst (λ (y : List Value × List ℕ). FoundArray (suc levels) bytes y) (ok_is (b.0, f.after) x c.1) (r.0, (f.body, r.1, spelled), r.2)
 
@@ -567,12 +635,12 @@ mutual
       let c = holds (eqb f.last 0) _ _ o.0 b.2 in
       let r = total_found (suc levels) end bytes s a.1 (eqb-true _ _ c.0) in
       let fs = fields_found (λ c v. AreBytesOf (IsDocument levels) (IsArray levels) c (out-Value v)) (value_at levels)
-            (value_found (IsDocument levels) (IsArray levels) (document_at levels) (array_at levels) (scoped_at levels) (document_found levels) (array_found levels) (scoped_found levels))
-            (length f.body) f.stop [] f.body b.0 (omega arith) tt b.1 in
+      (value_found (IsDocument levels) (IsArray levels) (document_at levels) (array_at levels) (scoped_at levels) (document_found levels) (array_found levels) (scoped_found levels))
+      (length f.body) f.stop [] f.body b.0 (omega arith) tt b.1 in
       let spelled : AreFields (λ c v. AreBytesOf (IsDocument levels) (IsArray levels) c (out-Value v)) f.body b.0 = subst (λ (es : List (List ℕ × Value)). AreFields (λ c v. AreBytesOf (IsDocument levels) (IsArray levels) c (out-Value v)) f.body es) fs.1 fs.3 in
       let read : ((s.code, b.0), f.after) ≡ x = ap (λ (y : List (List ℕ × Value) × List ℕ). ((s.code, y.0), y.1)) (ok_is (b.0, f.after) o.0 c.1) ∙ ok_is ((s.code, o.0.0), o.0.1) x o.2 in
       subst (λ (y : (List ℕ × List (List ℕ × Value)) × List ℕ). FoundCode (suc levels) bytes y) read
-        (r.spelling, (r.total, r.string, r.scope, r.is_total, r.is_string, (f.body, r.is_scope, fs.2, spelled), r.spelling_is), r.parts)
+      (r.spelling, (r.total, r.string, r.scope, r.is_total, r.is_string, (f.body, r.is_scope, fs.2, spelled), r.spelling_is), r.parts)
 
 -- the whole input
 pub record WholeFound (max depth : ℕ) (bytes : List ℕ) (fs : List (List ℕ × Value)) : Type 0 where

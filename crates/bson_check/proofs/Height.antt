@@ -17,10 +17,10 @@ pub below_is : (fs : List (List ℕ × Value)) → levels_below (map (λ e. (e.0
 below_is [] = refl
 below_is (e ∷ fs) = ap (λ (n : ℕ). max (levels_in e.1) n) (below_is fs)
 
-object_levels : (fs : List (List ℕ × Value)) → levels_at (Value-F.Object fs) ≡ levels_of fs
+pub object_levels : (fs : List (List ℕ × Value)) → levels_at (Value-F.Object fs) ≡ levels_of fs
 object_levels fs = ap suc (below_is fs)
 
-code_levels : (t : List ℕ) (fs : List (List ℕ × Value)) → levels_at (Value-F.ScopedCode t fs) ≡ levels_of fs
+pub code_levels : (t : List ℕ) (fs : List (List ℕ × Value)) → levels_at (Value-F.ScopedCode t fs) ≡ levels_of fs
 code_levels t fs = ap suc (below_is fs)
 
 abbrev pub array_levels : List Value → ℕ

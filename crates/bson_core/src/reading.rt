@@ -1,9 +1,11 @@
 //! Reading a document from its bytes.
-ghost use Rattle.std.specs.Prelude.{◌≡◌, ◌+◌, ◌-◌, ◌*◌, ◌<◌, ◌≤◌, [], ◌∷◌, ◌++◌, length, slice_index, ◌^◌, List, ℕ, ◌==◌, IfSome, IfOk, Contains, MatchOption, OnOk, OnErr, true, false, take, drop, Ok};
+ghost use Rattle.std.specs.Prelude.{◌≡◌, ◌+◌, ◌-◌, ◌*◌, ◌<◌, ◌≤◌, [], ◌∷◌, ◌++◌, length, slice_index, ◌^◌, List, ℕ, ◌==◌, IfSome, IfOk, IfErr, Contains, MatchOption, MatchResult, OnOk, OnErr, true, false, take, drop, Ok};
 ghost use Rattle.std.specs.Str.{is_utf8};
 ghost use Rattle.std.specs.List.{position_from};
-ghost use Rattle.bson_core.specs.Proper.{IsDocument};
-ghost use Rattle.bson_value.specs.Spelling.{document_text};
+ghost use Rattle.bson_check.specs.declared.fault.DecodeFault.TheVariants.{NoMemory};
+ghost use Rattle.bson_check.specs.Spells.{SpellsWithin};
+ghost use Rattle.bson_check.specs.Faults.{IsFault, first_fault};
+ghost use Rattle.bson_value.specs.declared.value.Value.{Value as Datum};
 ghost use Rattle.bson_check.specs.Passing.{count_of, jump};
 ghost use Rattle.bson_check.specs.Reading.{Gives, Reads, number, int_at, bool_at, text_at, frame_at, Frame, name_at, named, is_type, field_at, item_at, fields_at, items_at, value_at, document_at, array_at, scoped_at, document_of, run_at, long_of, stamp_of, raw_at, binary_at, cut_at, regex_at, pointer_at, scope_at, total_at, Scoped};
 
@@ -308,11 +310,13 @@ fn whole(alloc: Global, bytes: &[u8], max: usize, depth: usize) -> Result<Doc, D
     Ok(doc)
 }
 
-/// The document that the bytes spell, all of the bytes.
+/// The document that the bytes spell, all of the bytes, of at most `max` bytes and `depth` levels.
+/// Else the first fault from the left, the one that `check` answers.
 pub fn decode(alloc: Global, bytes: &[u8], max: usize, depth: usize) -> Result<Doc, DecodeFault>
+    ensures found { IfOk result (λ fs. SpellsWithin max depth bytes.now fs) }
     // What is spelled so is read, unless memory runs out.
-    ensures only { (fs : List (List ℕ × Value)) → IsDocument depth fs → length bytes.now < 2 ^ 31 → length bytes.now ≤ max → bytes.now ≡ document_text fs → Gives (λ d. d) result (Ok fs) }
-    // Which document or fault it is.
+    ensures only { (fs : List (List ℕ × Datum)) → SpellsWithin max depth bytes.now fs → MatchResult result (λ d. d ≡ fs) (λ e. e ≡ NoMemory) }
+    ensures fault { IfErr result (λ e. IsFault e (first_fault max depth bytes.now)) }
     ensures exact { Gives (λ d. d) result (document_of max depth bytes.now) }
 {
     whole(alloc, bytes, max, depth)
