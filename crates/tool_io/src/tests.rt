@@ -33,6 +33,7 @@ fn a_sink_in_memory_keeps_and_fails(rt: HostRuntime) -> Result<(), Fail> {
 #[derive(Drop)]
 struct Halting {
     held: Vec<u8>,
+    read: usize,
     calls: usize,
     fails_at: usize,
 }
@@ -41,6 +42,7 @@ impl Halting {
     fn new(held: Vec<u8>, fails_at: usize) -> Halting {
         Halting {
             held,
+            read: 0,
             calls: 0,
             fails_at,
         }
@@ -58,13 +60,12 @@ impl Halting {
 
 impl Read for Halting {
     fn read(&mut self, buf: &mut [u8]) -> io::Result<usize> {
-        let len = self
-            .turn(self.held.len())?
-            .min(buf.len())
-            .min(self.held.len());
-        buf[..len].copy_from_slice(&self.held[..len]);
-        self.held.drain(..len);
-        Ok(len)
+        let room = self.turn(buf.len())?;
+        let rest = self.held.get(self.read..).unwrap_or(&[]);
+        let count = room.min(buf.len()).min(rest.len());
+        buf[..count].copy_from_slice(&rest[..count]);
+        self.read = self.read.saturating_add(count);
+        Ok(count)
     }
 }
 
