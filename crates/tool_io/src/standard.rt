@@ -1,11 +1,11 @@
 //! Ends over std's readers and writers: the trusted edge.
-ghost use Rattle.std.specs.Prelude.{◌≡◌, ℕ, ◌<◌, ◌≤◌, None};
+ghost use Rattle.std.specs.Prelude.{◌≡◌, ℕ, ◌<◌, ◌≤◌};
 
 use crate::ends::{Fault, Sink, Source};
 use std::io::{Read, Write};
 use std::marker::Model;
 
-/// A source over any reader, which contracts see as its count of faults: each error of the reader is one. It can't tell what is left.
+/// A source over any reader, which tells what is left where the reader does. Each error of the reader counts as a fault.
 #[derive(Drop)]
 pub struct StdSource<R> {
     inner: R,
@@ -13,25 +13,25 @@ pub struct StdSource<R> {
 }
 
 impl<R> Model for StdSource<R> {
-    ghost use Rattle.std.specs.Prelude.{ℕ};
+    ghost use Rattle.tool_io.specs.Causes.{Counted};
 
-    ghost Value = { ℕ };
+    ghost Value = { Counted R };
 
-    ghost view = { λ s. s.faults };
+    ghost view = { λ s. record { inner = s.inner; faults = s.faults } };
 }
 
 impl<R> StdSource<R> {
     pub fn new(inner: R) -> StdSource<R>
-        ensures { result ≡ 0 }
+        ensures { result ≡ record { inner = inner; faults = 0 } }
     {
         StdSource { inner, faults: 0 }
     }
 }
 
 impl<R: Read> Source for StdSource<R> {
-    ghost left = { λ _. None };
+    ghost left = { λ s. R.remaining s.inner };
 
-    ghost faults = { λ s. s };
+    ghost faults = { λ s. s.faults };
 
     fn read(&mut self, buf: &mut [u8]) -> Result<usize, Fault> {
         match self.inner.read(buf) {
@@ -44,8 +44,8 @@ impl<R: Read> Source for StdSource<R> {
     }
 }
 
-/// A sink over any writer, which contracts see as its count of faults: each error of the writer is one, and each write that takes
-/// nothing of a piece that isn't empty. It can't tell what was written.
+/// A sink over any writer, which tells what was written where the writer does. Each error of the writer counts as a fault, and so
+/// does a write that takes nothing of a piece that isn't empty.
 #[derive(Drop)]
 pub struct StdSink<W> {
     inner: W,
@@ -53,25 +53,25 @@ pub struct StdSink<W> {
 }
 
 impl<W> Model for StdSink<W> {
-    ghost use Rattle.std.specs.Prelude.{ℕ};
+    ghost use Rattle.tool_io.specs.Causes.{Counted};
 
-    ghost Value = { ℕ };
+    ghost Value = { Counted W };
 
-    ghost view = { λ s. s.faults };
+    ghost view = { λ s. record { inner = s.inner; faults = s.faults } };
 }
 
 impl<W> StdSink<W> {
     pub fn new(inner: W) -> StdSink<W>
-        ensures { result ≡ 0 }
+        ensures { result ≡ record { inner = inner; faults = 0 } }
     {
         StdSink { inner, faults: 0 }
     }
 }
 
 impl<W: Write> Sink for StdSink<W> {
-    ghost written = { λ _. None };
+    ghost written = { λ s. W.contents s.inner };
 
-    ghost faults = { λ s. s };
+    ghost faults = { λ s. s.faults };
 
     fn write(&mut self, piece: &[u8]) -> Result<(), Fault> {
         let mut rest = piece;
