@@ -166,3 +166,14 @@ fn documents_of_every_kind(rt: HostRuntime) -> Result<(), Fail> {
     }
     Ok(())
 }
+
+#[test]
+fn array_names_are_passed_over(rt: HostRuntime) -> Result<(), Fail> {
+    let bytes = unhex(rt.alloc(), "10000000046100080000000a78000000")?;
+    let doc = decode(rt.alloc(), &bytes, bytes.len(), 2)?;
+    assert_eq!(rt;
+        encode(rt.alloc(), &doc)?.as_slice(),
+        unhex(rt.alloc(), "10000000046100080000000a30000000")?.as_slice()
+    );
+    Ok(())
+}
