@@ -1,6 +1,6 @@
 -- The spelling of a document is in the grammar.
 use Rattle.std.proofs.Common.{◌≡◌, ℕ, zero, suc, ◌+◌, ◌<◌, ◌≤◌, ◌^◌, ◌%◌, Bool, true, false, max, List, [], ◌∷◌, ◌++◌, length, map, refl, sym, ap, subst, ◌∙◌, append_assoc, arith}
-use Rattle.std.specs.Prelude.{ℤ, FitsSigned, Contains}
+use Rattle.std.specs.Prelude.{ℤ, FitsSigned, Contains, Result, Ok, Err, IfOk, OnOk}
 use Rattle.std.specs.Int.{w32, w64, to_le_bytes, from_le_bytes, cast_unsigned, cast_signed}
 use Rattle.std.specs.List.{AllByRecursion}
 use Rattle.std.specs.Str.{is_utf8}
@@ -163,3 +163,7 @@ mutual
 pub spelling_spells : SpellingSpells
 unfolding Spells
 spelling_spells fs k small = (small, levels_of fs, document_spelled (levels_of fs) fs k (omega arith) small)
+
+pub written_spells : {E : Type 0} (fs : List (List ℕ × Value)) (r : Result (List ℕ) E) → IfOk r (λ b. b ≡ document_text fs) → OnOk r (IsKept fs) → IfOk r (λ b. length b < 2 ^ 31 → Spells b fs)
+written_spells fs (Ok b) is k = λ small. subst (λ (c : List ℕ). Spells c fs) (sym is) (spelling_spells fs k (subst (λ (c : List ℕ). length c < 2 ^ 31) is small))
+written_spells fs (Err e) is k = tt
