@@ -96,10 +96,15 @@ module _ (D : List ℕ → List (List ℕ × Value) → Type 0) (A : List ℕ �
   one_spelled (Value-F.ScopedCode t fs) k h le small =
       let both = text_bytes t ++ document_text fs in
       let inner : length both ≡ length (text_bytes t) + length (document_text fs) = length-append (text_bytes t) (document_text fs) in
-      let len : length (counted both) ≡ length both + 4 = omega (arith, length-append (count_bytes (length both + 4)) both) in
-      (count_bytes (length both + 4), text_bytes t, document_text fs,
+      let len : length (counted both) ≡ length both + 4 = omega (arith, length-append (count_bytes (length both + 4)) both) in (
+        count_bytes (length both + 4),
+        text_bytes t,
+        document_text fs,
         subst (λ (m : ℕ). IsCount (count_bytes (length both + 4)) m) (sym len) (count_is (length both + 4) (omega (arith, len, small))),
-        string_is t k.0 (omega (arith, small, len, inner)), documents fs (k.1, h) (omega (arith, le, code_levels t fs)) (omega (arith, small, len, inner)), refl)
+        string_is t k.0 (omega (arith, small, len, inner)),
+        documents fs (k.1, h) (omega (arith, le, code_levels t fs)) (omega (arith, small, len, inner)),
+        refl,
+      )
   one_spelled (Value-F.Int z) k h le small = int_is z k
   one_spelled (Value-F.Stamp s) k h le small = (to_le_bytes w32 s.inc, to_le_bytes w32 s.secs, word_is s.inc k.1, word_is s.secs k.0, refl)
   one_spelled (Value-F.Long z) k h le small = long_is z k
@@ -111,7 +116,7 @@ module _ (D : List ℕ → List (List ℕ × Value) → Type 0) (A : List ℕ �
   value_spelled v k le small =
       let e = ap (λ (t : Typed). t.1) (spelling_out v) in
       subst (λ (b : List ℕ). AreBytesOf D A b (out-Value v)) (sym e)
-        (one_spelled (out-Value v) (here_kept v k) (held_kept v k) (omega (arith, le, levels_out v)) (subst (λ (b : List ℕ). length b < 2 ^ 31) e small))
+      (one_spelled (out-Value v) (here_kept v k) (held_kept v k) (omega (arith, le, levels_out v)) (subst (λ (b : List ℕ). length b < 2 ^ 31) e small))
 
   -- ---- elements
 
@@ -124,9 +129,14 @@ module _ (D : List ℕ → List (List ℕ × Value) → Type 0) (A : List ℕ �
       let b = spelled e.1 in
       let others = elements_of fs in
       let parts = element_is e.0 b others in
-      let len : length (elements_of (e ∷ fs)) ≡ suc (length (e.0 ++ 0 ∷ []) + (length b + length others)) = omega (arith, ap length parts, length-append (e.0 ++ 0 ∷ []) (b ++ others), length-append b others) in
-      (b, others, names.0, value_spelled e.1 k.0 (omega (arith, le)) (omega (arith, small, len)), fields_spelled fs names.1 k.1 (omega (arith, le)) (omega (arith, small, len)),
-        ap (λ (t : ℕ). t ∷ ((e.0 ++ (0 ∷ b)) ++ others)) (sym (tag_is e.1)) ∙ ap (λ (r : List ℕ). type_byte (out-Value e.1) ∷ r) parts)
+      let len : length (elements_of (e ∷ fs)) ≡ suc (length (e.0 ++ 0 ∷ []) + (length b + length others)) = omega (arith, ap length parts, length-append (e.0 ++ 0 ∷ []) (b ++ others), length-append b others) in (
+        b,
+        others,
+        names.0,
+        value_spelled e.1 k.0 (omega (arith, le)) (omega (arith, small, len)),
+        fields_spelled fs names.1 k.1 (omega (arith, le)) (omega (arith, small, len)),
+        ap (λ (t : ℕ). t ∷ ((e.0 ++ (0 ∷ b)) ++ others)) (sym (tag_is e.1)) ∙ ap (λ (r : List ℕ). type_byte (out-Value e.1) ∷ r) parts,
+      )
 
   items_spelled : (i : ℕ) (vs : List Value) → i + length vs < 2 ^ 64 → ItemsKept vs → largest (map levels_in vs) ≤ n → length (numbered i (map spelling vs)) < 2 ^ 31 → AreItems (λ c v. AreBytesOf D A c (out-Value v)) (numbered i (map spelling vs)) vs
   items_spelled i [] lt k le small = refl
@@ -134,9 +144,15 @@ module _ (D : List ℕ → List (List ℕ × Value) → Type 0) (A : List ℕ �
       let b = spelled v in
       let others = numbered (i + 1) (map spelling vs) in
       let parts = element_is (decimal i) b others in
-      let len : length (numbered i (map spelling (v ∷ vs))) ≡ suc (length (decimal i ++ 0 ∷ []) + (length b + length others)) = omega (arith, ap length parts, length-append (decimal i ++ 0 ∷ []) (b ++ others), length-append b others) in
-      (decimal i, b, others, index_no_zero i (omega (arith, lt)), value_spelled v k.0 (omega (arith, le)) (omega (arith, small, len)), items_spelled (i + 1) vs (omega (arith, lt)) k.1 (omega (arith, le)) (omega (arith, small, len)),
-        ap (λ (t : ℕ). t ∷ ((decimal i ++ (0 ∷ b)) ++ others)) (sym (tag_is v)) ∙ ap (λ (r : List ℕ). type_byte (out-Value v) ∷ r) parts)
+      let len : length (numbered i (map spelling (v ∷ vs))) ≡ suc (length (decimal i ++ 0 ∷ []) + (length b + length others)) = omega (arith, ap length parts, length-append (decimal i ++ 0 ∷ []) (b ++ others), length-append b others) in (
+        decimal i,
+        b,
+        others,
+        index_no_zero i (omega (arith, lt)),
+        value_spelled v k.0 (omega (arith, le)) (omega (arith, small, len)),
+        items_spelled (i + 1) vs (omega (arith, lt)) k.1 (omega (arith, le)) (omega (arith, small, len)),
+        ap (λ (t : ℕ). t ∷ ((decimal i ++ (0 ∷ b)) ++ others)) (sym (tag_is v)) ∙ ap (λ (r : List ℕ). type_byte (out-Value v) ∷ r) parts,
+      )
 
 -- ---- documents and arrays
 
@@ -149,16 +165,21 @@ mutual
 
   pub document_spelled : (n : ℕ) (fs : List (List ℕ × Value)) → IsKept fs → levels_of fs ≤ n → length (document_text fs) < 2 ^ 31 → IsDocument n (document_text fs) fs
   document_spelled zero fs k le small = absurd (omega (arith, le))
-  document_spelled (suc n) fs k le small =
-      (elements_of fs, frame_is (elements_of fs) small, k.0.0,
-        fields_spelled (IsDocument n) (IsArray n) n (document_spelled n) (array_spelled n) fs k.0.1 k.1 (omega (arith, le)) (omega (arith, small, framed_len (elements_of fs))))
+  document_spelled (suc n) fs k le small = (
+    elements_of fs,
+    frame_is (elements_of fs) small,
+    k.0.0,
+    fields_spelled (IsDocument n) (IsArray n) n (document_spelled n) (array_spelled n) fs k.0.1 k.1 (omega (arith, le)) (omega (arith, small, framed_len (elements_of fs))),
+  )
 
   pub array_spelled : (n : ℕ) (vs : List Value) → ItemsKept vs → array_levels vs ≤ n → length (framed (items_of vs)) < 2 ^ 31 → IsArray n (framed (items_of vs)) vs
   array_spelled zero vs k le small = absurd (omega (arith, le))
   array_spelled (suc n) vs k le small =
-      let len = framed_len (items_of vs) in
-      (items_of vs, frame_is (items_of vs) small,
-        items_spelled (IsDocument n) (IsArray n) n (document_spelled n) (array_spelled n) 0 vs (omega (arith, small, len, count_le 0 (map spelling vs), length-map vs spelling)) k (omega (arith, le)) (omega (arith, small, len)))
+      let len = framed_len (items_of vs) in (
+        items_of vs,
+        frame_is (items_of vs) small,
+        items_spelled (IsDocument n) (IsArray n) n (document_spelled n) (array_spelled n) 0 vs (omega (arith, small, len, count_le 0 (map spelling vs), length-map vs spelling)) k (omega (arith, le)) (omega (arith, small, len)),
+      )
 
 pub spelling_spells : SpellingSpells
 unfolding Spells
