@@ -1,6 +1,7 @@
 pub mod Loop
 pub mod Walk
 pub mod Split
+pub mod Search
 pub mod Texts
 pub mod Cutting
 pub mod Again

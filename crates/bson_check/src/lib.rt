@@ -6,6 +6,8 @@ mod fault;
 mod laws;
 mod length;
 pub mod parts;
+pub mod passing;
+pub mod repeats;
 
 pub use checking::check;
 pub use length::{MAX_DOCUMENT_BYTES, doc_len};

@@ -13,3 +13,6 @@ pub use bson_value::{Bytes, CText, Doc, Fields, List, NsName, Text, Ts, Value, s
 pub use laws::spelling_spells;
 pub use reading::decode;
 pub use writing::encode;
+
+#[cfg(test)]
+mod tests;

@@ -1,15 +1,15 @@
 -- Two values are equal up to the order of fields exactly where the same stands at each place.
-use Rattle.std.proofs.Common.{◌≡◌, ◌≢◌, ℕ, zero, suc, List, [], ◌∷◌, map, Bool, true, false, cond, refl, sym, ap, ◌∙◌, subst, Option, Some, None, inl, inr}
-use Rattle.std.specs.Prelude.{option_map, ◌⊎◌}
+use Rattle.std.proofs.Common.{◌≡◌, ℕ, zero, suc, List, [], ◌∷◌, map, Bool, true, false, cond, refl, sym, ap, ◌∙◌, subst, Option, Some, None}
+use Rattle.std.specs.Prelude.{option_map}
 use Rattle.std.specs.Str.{bytes_eq}
 use Rattle.std.specs.Ordering.{nat_cmp, eq_by_cmp}
 use Rattle.std.specs.declared.cmp.Ordering.{Ordering}
 use Rattle.std.specs.Cmp.Lexicographic.{slice_cmp, nat_list_cmp_total, nat_list_eq_equiv, texts_ties}
-use Rattle.std.specs.FinMap.{FinMap, find, get, entries, from_entries, get-entries, get-from_entries, same_map, nat_cmp-IsAntisymmetric, slice_cmp-IsAntisymmetric}
-use Rattle.bson_value.specs.declared.value.Value.{Value, Value-F, out-Value, roll-Value, out-roll-Value, roll-out-Value, fold-Value, fold_out-Value, fold-roll-Value, map-Value, ind-Value}
+use Rattle.std.specs.FinMap.{find, entries, from_entries, get-entries, get-from_entries, same_map, nat_cmp-IsAntisymmetric, slice_cmp-IsAntisymmetric}
+use Rattle.bson_value.specs.declared.value.Value.{Value, Value-F, out-Value, roll-Value, out-roll-Value, fold_out-Value, fold-roll-Value, map-Value, ind-Value}
 use Rattle.containers.specs.Entries.{lookup}
 use Rattle.bson_value.specs.Digits.{index_of, digits}
-use Rattle.bson_value.specs.Place.{Place, Shape, a_leaf, an_array, an_object, a_code, shape_in, shape, nth, at_index, child_in, child, look}
+use Rattle.bson_value.specs.Place.{Place, a_leaf, an_object, a_code, shape_in, shape, nth, at_index, child_in, child, look}
 use Rattle.bson_value.specs.Alike.{by_name, ordered_step, ordered, ◌~◌}
 use Rattle.bson_value.proofs.Digits.{index_of-digits}
 use Rattle.bson_value.proofs.Child.{array_in}

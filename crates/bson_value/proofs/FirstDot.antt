@@ -1,12 +1,12 @@
 -- The first dot of a text, and what stands before and behind it.
-use Rattle.std.proofs.Common.{◌≡◌, ℕ, zero, suc, ◌+◌, ◌<◌, ◌≤◌, Bool, true, false, List, [], ◌∷◌, ◌++◌, length, get_or, take, drop, eqb, refl, sym, ap, ◌∙◌, subst, arith, length-append}
-use Rattle.std.specs.Prelude.{Contains, ◌⊎◌, ◌==◌}
+use Rattle.std.proofs.Common.{◌≡◌, ℕ, zero, suc, ◌+◌, ◌<◌, Bool, true, false, List, [], ◌∷◌, ◌++◌, length, get_or, take, drop, eqb, refl, sym, ap, ◌∙◌, subst, arith, length-append}
+use Rattle.std.specs.Prelude.{◌⊎◌, ◌==◌}
 use Rattle.std.specs.List.{position_or_len, before_first, after_first}
-use Rattle.std.proofs.lemmas.List.{take_at, drop_at, get_or_at, length-take}
+use Rattle.std.proofs.lemmas.List.{take_at, drop_at, get_or_at}
 use Rattle.std.proofs.lemmas.List.Sums.{fails_before_first, passes_at_first, split_at_first, position_or_len_is}
-use Rattle.std.proofs.lemmas.Bool.{cases_Bool, ne_eqb}
-use Rattle.std.proofs.Common.{inl, inr, eq-eqb, eqb-true, ltb}
-use Rattle.bson_value.specs.Namespace.{IsSplit, dot}
+use Rattle.std.proofs.lemmas.Bool.{ne_eqb}
+use Rattle.std.proofs.Common.{inl, inr, eq-eqb, eqb-true}
+use Rattle.bson_value.specs.Namespace.{IsSplit}
 
 abbrev is_dot : ℕ → Bool
 is_dot b = eqb b 46
@@ -22,6 +22,7 @@ place_of_dot text db coll s =
     front [] ys k lt = absurd (omega arith)
     front (x ∷ xs) ys zero lt = refl
     front (x ∷ xs) ys (suc k) lt = front xs ys k (omega arith)
+
     before : (k : ℕ) → k < length db → get_or db k 46 ≡ get_or text k 46
     before k lt = front db (46 ∷ coll) k lt ∙ ap (λ (l : List ℕ). get_or l k 46) (sym s.joined)
 
@@ -33,9 +34,10 @@ without_dot text e db coll s = omega (arith, place_of_dot text db coll s, e, ap 
 pub sides : (text db coll : List ℕ) → IsSplit text db coll → (db ≡ before_first is_dot text) × (coll ≡ after_first is_dot text)
 sides text db coll s =
     let k = place_of_dot text db coll s in
-    let whole : text ≡ (db ++ 46 ∷ []) ++ coll = s.joined ∙ joined db coll in
-    (sym (ap (λ (n : ℕ). take n text) k ∙ (ap (λ (l : List ℕ). take (length db) l) s.joined ∙ take_at db (46 ∷ coll) (length db) refl)),
-     sym (ap (λ (n : ℕ). drop (n + 1) text) k ∙ (ap (λ (l : List ℕ). drop (length db + 1) l) whole ∙ drop_at (db ++ 46 ∷ []) coll (length db + 1) (length-append db (46 ∷ [])))))
+    let whole : text ≡ (db ++ 46 ∷ []) ++ coll = s.joined ∙ joined db coll in (
+      sym (ap (λ (n : ℕ). take n text) k ∙ (ap (λ (l : List ℕ). take (length db) l) s.joined ∙ take_at db (46 ∷ coll) (length db) refl)),
+      sym (ap (λ (n : ℕ). drop (n + 1) text) k ∙ (ap (λ (l : List ℕ). drop (length db + 1) l) whole ∙ drop_at (db ++ 46 ∷ []) coll (length db + 1) (length-append db (46 ∷ [])))),
+    )
   where
     joined : (xs ys : List ℕ) → xs ++ 46 ∷ ys ≡ (xs ++ 46 ∷ []) ++ ys
     joined [] ys = refl
@@ -63,6 +65,7 @@ at_first_dot text x y lt p q some_x some_y =
     taken (x ∷ xs) zero k lt = absurd (omega arith)
     taken (x ∷ xs) (suc n) zero lt = (omega arith, refl)
     taken (x ∷ xs) (suc n) (suc k) lt = let r = taken xs n k (omega arith) in (omega (arith, r.0), r.1)
+
     no_dot : (k : ℕ) → k < length (before_first is_dot text) → get_or (before_first is_dot text) k 46 ≡ 46 → ⊥
     no_dot k lt e =
         let t = taken text (position_or_len is_dot text) k lt in

@@ -1,6 +1,6 @@
 -- When two levels are equal up to the order of fields.
-use Rattle.std.proofs.Common.{◌≡◌, ◌≢◌, ℕ, zero, suc, ◌+◌, ◌<◌, ◌≤◌, List, [], ◌∷◌, length, map, take, get_or, Bool, true, false, cond, refl, sym, ap, ◌∙◌, subst, Option, Some, None, inl, inr, arith}
-use Rattle.std.specs.Prelude.{option_map, ◌⊎◌, ◌↔◌, IsSome, IsTrue, slice_get}
+use Rattle.std.proofs.Common.{◌≡◌, ℕ, zero, suc, ◌+◌, ◌<◌, ◌≤◌, List, [], ◌∷◌, length, map, take, get_or, Bool, true, false, refl, sym, ap, ◌∙◌, subst, Option, Some, None, inl, inr, arith}
+use Rattle.std.specs.Prelude.{option_map, ◌↔◌, IsSome, IsTrue}
 use Rattle.std.specs.Str.{bytes_eq}
 use Rattle.std.proofs.lemmas.Slice.Eq.{bytes_eq-Decides}
 use Rattle.std.proofs.lemmas.Bool.{cases_Bool}
@@ -8,8 +8,8 @@ use Rattle.bson_value.specs.declared.value.Value.{Value, Value-F, out-Value, rol
 use Rattle.bson_value.specs.declared.value.Value.TheVariants.{Object, Array, ScopedCode, rolls-Object, rolls-Array, rolls-ScopedCode, outs-Object, outs-Array, outs-ScopedCode}
 use Rattle.containers.specs.Entries.{IsAbsent, AreDistinct, names_of, lookup, without}
 use Rattle.containers.proofs.Entries.{lookup-without_ne, own_name, absent_none, fewer}
-use Rattle.bson_value.specs.Place.{Shape, a_leaf, an_array, an_object, a_code, shape_in, shape}
-use Rattle.bson_value.specs.Alike.{by_name, ordered_step, ordered, ordered_fields, HasAlike, AreAlike, ◌~◌}
+use Rattle.bson_value.specs.Place.{a_leaf, an_array, an_object, a_code, shape_in, shape}
+use Rattle.bson_value.specs.Alike.{by_name, ordered_step, ordered, ordered_fields, HasAlike, ◌~◌}
 use Rattle.bson_value.proofs.Alike.{lookup-map, lookup-by_name, same-by_name, shape-ordered, object_in, code_in, leaf_in}
 use Rattle.bson_value.proofs.Child.{array_in}
 
@@ -155,19 +155,22 @@ unfolding ordered
 ordered_array vs = ap (λ (v : Value). ordered v) (sym (rolls-Array vs)) ∙ fold-roll-Value Value ordered_step (Value-F.Array vs)
 
 pub object_alike : (fs gs : List Entry) → (Object fs ~ Object gs) ↔ Same fs gs
-object_alike fs gs =
-    ((λ e. let f = roll_out _ _ (sym (ordered_object fs) ∙ (e ∙ ordered_object gs)) in cc),
-     (λ e. ordered_object fs ∙ (ap (λ (l : List Entry). roll-Value (Value-F.Object l)) e ∙ sym (ordered_object gs))))
+object_alike fs gs = (
+  (λ e. let f = roll_out _ _ (sym (ordered_object fs) ∙ (e ∙ ordered_object gs)) in cc),
+  (λ e. ordered_object fs ∙ (ap (λ (l : List Entry). roll-Value (Value-F.Object l)) e ∙ sym (ordered_object gs))),
+)
 
 pub array_alike : (vs ws : List Value) → (Array vs ~ Array ws) ↔ (map ordered vs ≡ map ordered ws)
-array_alike vs ws =
-    ((λ e. let f = roll_out _ _ (sym (ordered_array vs) ∙ (e ∙ ordered_array ws)) in cc),
-     (λ e. ordered_array vs ∙ (ap (λ (l : List Value). roll-Value (Value-F.Array l)) e ∙ sym (ordered_array ws))))
+array_alike vs ws = (
+  (λ e. let f = roll_out _ _ (sym (ordered_array vs) ∙ (e ∙ ordered_array ws)) in cc),
+  (λ e. ordered_array vs ∙ (ap (λ (l : List Value). roll-Value (Value-F.Array l)) e ∙ sym (ordered_array ws))),
+)
 
 pub code_alike : (t u : List ℕ) (fs gs : List Entry) → (ScopedCode t fs ~ ScopedCode u gs) ↔ ((t ≡ u) × Same fs gs)
-code_alike t u fs gs =
-    ((λ e. let f = roll_out _ _ (sym (ordered_code t fs) ∙ (e ∙ ordered_code u gs)) in (cc, cc)),
-     (λ e. ordered_code t fs ∙ (ap (λ (l : List Entry). roll-Value (Value-F.ScopedCode t l)) e.1 ∙ (ap (λ (x : List ℕ). roll-Value (Value-F.ScopedCode x (by_name (ordered_fields gs)))) e.0 ∙ sym (ordered_code u gs)))))
+code_alike t u fs gs = (
+  (λ e. let f = roll_out _ _ (sym (ordered_code t fs) ∙ (e ∙ ordered_code u gs)) in (cc, cc)),
+  (λ e. ordered_code t fs ∙ (ap (λ (l : List Entry). roll-Value (Value-F.ScopedCode t l)) e.1 ∙ (ap (λ (x : List ℕ). roll-Value (Value-F.ScopedCode x (by_name (ordered_fields gs)))) e.0 ∙ sym (ordered_code u gs)))),
+)
 
 -- ---- two values of different kinds
 

@@ -1,5 +1,5 @@
 -- Equality up to the order of fields at every level.
-use Rattle.std.specs.Prelude.{ℕ, ◌≡◌, List, [], ◌∷◌, Option, Some, option_map, map as map_list}
+use Rattle.std.specs.Prelude.{ℕ, ◌≡◌, List, Some, option_map, map as map_list}
 use Rattle.std.specs.Ordering.{nat_cmp}
 use Rattle.std.specs.Cmp.Lexicographic.{slice_cmp}
 use Rattle.std.specs.FinMap as map

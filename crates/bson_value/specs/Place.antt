@@ -1,5 +1,5 @@
 -- What stands at each place of a value. A place is a list of names, where an index goes by its digits.
-use Rattle.std.specs.Prelude.{ℕ, zero, suc, ◌≡◌, ◌<◌, List, [], ◌∷◌, Bool, true, false, if◌then◌else◌, Option, Some, None}
+use Rattle.std.specs.Prelude.{ℕ, zero, suc, ◌≡◌, List, [], ◌∷◌, Option, Some, None}
 use Rattle.bson_value.specs.declared.value.Value.{Value, Value-F, out-Value, roll-Value, Null}
 use Rattle.containers.specs.Entries.{lookup, put as put_field, without}
 use Rattle.bson_value.specs.Digits.{index_of}

@@ -1,5 +1,5 @@
 -- Whether a value fits the room and the levels that are left for it.
-use Rattle.std.specs.Prelude.{◌≡◌, ℕ, ◌+◌, ◌<◌, ◌≤◌, List, length, Option, Some, None}
+use Rattle.std.specs.Prelude.{◌≡◌, ℕ, ◌+◌, ◌≤◌, List, length, Option, Some, None}
 use Rattle.bson_value.specs.declared.value.Value.{Value}
 use Rattle.bson_value.specs.Spelling.{document_text}
 use Rattle.bson_value.specs.Levels.{levels_of}

@@ -8,5 +8,4 @@ ghost use Rattle.bson_value.specs.declared.value.Value.{Value as Datum};
 /// both: the same kind of value, or the same leaf, or nothing. The scope of a code has places too.
 pub fn alike_looks_the_same()
     ensures { (a b : Datum) → (a ~ b) ↔ LooksTheSame a b }
-{
-}
+{}

@@ -64,10 +64,14 @@ impl Value {
                 Value::Array(b) => same_items(a.as_slice(), b.as_slice()),
                 _ => false,
             },
-            Value::Binary { subtype: a, bytes: c } => match other {
-                Value::Binary { subtype: b, bytes: d } => {
-                    *a == *b && c.as_slice() == d.as_slice()
-                }
+            Value::Binary {
+                subtype: a,
+                bytes: c,
+            } => match other {
+                Value::Binary {
+                    subtype: b,
+                    bytes: d,
+                } => { *a == *b && c.as_slice() == d.as_slice() }
                 _ => false,
             },
             Value::Undefined => matches!(other, Value::Undefined),
@@ -84,16 +88,18 @@ impl Value {
                 _ => false,
             },
             Value::Null => matches!(other, Value::Null),
-            Value::Regex { pattern: a, options: c } => match other {
-                Value::Regex { pattern: b, options: d } => {
-                    a.as_str() == b.as_str() && c.as_str() == d.as_str()
-                }
+            Value::Regex {
+                pattern: a,
+                options: c,
+            } => match other {
+                Value::Regex {
+                    pattern: b,
+                    options: d,
+                } => { a.as_str() == b.as_str() && c.as_str() == d.as_str() }
                 _ => false,
             },
             Value::DbPointer { ns: a, id: c } => match other {
-                Value::DbPointer { ns: b, id: d } => {
-                    a.as_str() == b.as_str() && *c == *d
-                }
+                Value::DbPointer { ns: b, id: d } => { a.as_str() == b.as_str() && *c == *d }
                 _ => false,
             },
             Value::Code(a) => match other {

@@ -4,6 +4,5 @@
 mod list;
 mod text;
 
-
 pub use list::List;
 pub use text::{Bytes, CText, Text};

@@ -1,4 +1,4 @@
-use Rattle.std.proofs.Common.{arith, ap, ◌∙◌, ◌+◌, ℕ}
+use Rattle.std.proofs.Common.{ap, ◌∙◌, ◌+◌, ℕ}
 use Rattle.bson_value.proofs.Digits.{length-decimal_one, length-decimal_step}
 use Rattle.bson_value.proofs.size.+digit_count.Goals as goal
 

@@ -1,5 +1,4 @@
-use Rattle.std.proofs.Common.{refl, arith, ap, subst, sym, ◌∙◌, ◌+◌, ◌≡◌, ◌<◌, ◌≤◌, ℕ, List, length, take, map}
-use Rattle.std.specs.Fmt.{decimal}
+use Rattle.std.proofs.Common.{refl, arith, ap, sym, ◌∙◌, ◌+◌, length, map}
 use Rattle.bson_value.specs.Levels.{largest, levels_in}
 use Rattle.bson_value.specs.Spelling.{items_of, document_text}
 use Rattle.bson_value.proofs.Sizes.{value_size, leaf_size, none_left, behind, fields_stop, fields_go_on, items_no_room, items_stop, items_go_on, spelled-object, levels-object, spelled-array, levels-array, spelled-code, levels-code, spelled-str, levels-str, spelled-code_text, levels-code_text, spelled-symbol_text, levels-symbol_text, spelled-regex, levels-regex, spelled-pointer, levels-pointer, spelled-double, levels-double, spelled-decimal, levels-decimal, spelled-oid, levels-oid, leaf}

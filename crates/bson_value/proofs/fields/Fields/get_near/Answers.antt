@@ -1,8 +1,6 @@
-use Rattle.std.proofs.Common.{List, ℕ, ap, subst, sym, ◌≡◌, ◌∙◌, Option}
+use Rattle.std.proofs.Common.{List, ℕ, ap, sym, ◌∙◌}
 use Rattle.std.specs.Prelude.{Some}
-use Rattle.std.specs.Str.{bytes_eq}
 use Rattle.std.proofs.lemmas.Slice.Eq.{bytes_eq-Decides}
-use Rattle.containers.specs.Entries.{lookup}
 use Rattle.containers.proofs.Entries.{own_at}
 use Rattle.bson_value.proofs.fields.Fields.get_near.Goals as goal
 

@@ -1,5 +1,4 @@
-use Rattle.std.proofs.Common.{Bool, true, false, cond, List, ◌≡◌, ◌++◌, ℕ, Contains, encode_utf8, string_bytes, subst, sym}
-use Rattle.std.specs.Prelude.{is_ok}
+use Rattle.std.proofs.Common.{Bool, true, false, cond, List, ◌≡◌, ℕ, Contains, subst, sym}
 use Rattle.containers.proofs.Characters.{pushed}
 use Rattle.containers.proofs.text.CText.push.Goals as goal
 
