@@ -5,7 +5,7 @@ use Rattle.std.specs.Prelude.{ℤ, FitsSigned}
 use Rattle.std.specs.Int.{w32, w64}
 use Rattle.std.specs.Str.{is_utf8}
 use Rattle.std.specs.List.{AllByRecursion}
-use Rattle.bson_value.specs.declared.value.Value.{Value, Value-F, out-Value, roll-Value, roll-out-Value, map-Value, every-Value, every_here-Value, every_held-Value, every_made-Value}
+use Rattle.bson_value.specs.declared.value.Value.{Value, Value-F, out-Value, roll-Value, map-Value, every_here-Value, every_held-Value, every_made-Value}
 use Rattle.bson_value.specs.declared.value.Ts.{Ts}
 use Rattle.bson_value.specs.declared.value.Value.TheVariants.{Double, Str, Object, Array, Binary, Undefined, Oid, Bool, Date, Null, Regex, DbPointer, Code, Symbol, ScopedCode, Int, Stamp, Long, Decimal, MinKey, MaxKey, rolls-Null, rolls-Int, rolls-Bool, rolls-Str, rolls-Object, rolls-Array, rolls-Undefined, rolls-Code, rolls-Symbol, rolls-MinKey, rolls-MaxKey, rolls-Double, rolls-Oid, rolls-Decimal, rolls-Date, rolls-Long, rolls-Binary, rolls-Regex, rolls-DbPointer, rolls-Stamp, rolls-ScopedCode}
 use Rattle.bson_check.specs.Spells.{IsName}
