@@ -10,6 +10,6 @@ pub mod passing;
 pub mod repeats;
 
 pub use checking::check;
-pub use length::{MAX_DOCUMENT_BYTES, doc_len};
 pub use fault::{BsonFault, BsonKind, DecodeFault};
 pub use laws::{faultless_if_spelled, levels_needed, spelled_once};
+pub use length::{MAX_DOCUMENT_BYTES, doc_len};
