@@ -1,5 +1,5 @@
 -- Setting bits.
-use Rattle.std.proofs.Common.{rules, IsTrue, nat_eq, bit_and, Contains, ◌≡◌, ℕ, suc, zero, ◌+◌, ◌-◌, ◌*◌, ◌/◌, ◌%◌, ◌^◌, ◌<◌, ◌≤◌, ◌⊎◌, inl, inr, max, List, length, take, slice_index, slice_set, bit_or, w64, refl, sym, ap, subst, ◌∙◌, arith}
+use Rattle.std.proofs.Common.{rules, IsTrue, nat_eq, bit_and, Contains, ◌≡◌, ℕ, ◌+◌, ◌*◌, ◌/◌, ◌%◌, ◌^◌, ◌<◌, ◌⊎◌, inl, inr, List, length, take, slice_index, slice_set, bit_or, w64, sym, ap, subst, ◌∙◌, arith}
 use Rattle.std.specs.Int.{bit_at}
 use Rattle.std.proofs.lemmas.Nat.Bits.{bit_at_or, bit_at-lt, bit_at_set_same, shr_and_one}
 use Rattle.std.proofs.lemmas.List.{get_or-set_same, get_or-set_other, take_more}

@@ -15,11 +15,10 @@ pub(crate) const LONGEST: usize = 4294967295;
 const BLOCK: usize = 32768;
 
 // Writes down where elements start, up to the last `left` bytes or until the block is full, and says how many they are and what is behind them.
-fn fill<'a>(body: &'a [u8], from: &'a [u8], left: usize, block: &mut [u32]) -> (usize, &'a [u8])
-    requires small { length from.now ≤ LONGEST }
-    requires end { IsEnd body.now from.now }
+fn fill<'a>(from: &'a [u8], left: usize, block: &mut [u32]) -> (usize, &'a [u8])
+    requires { length from.now ≤ LONGEST }
     ensures count { result.0 ≤ length block.old }
-    ensures end { IsEnd body.now result.1.now }
+    ensures end { (body : List ℕ) → IsEnd body from.now → IsEnd body result.1.now }
     ensures fits { length result.1.now ≤ length from.now }
     ensures less { left < length from.now → 0 < length block.old → length result.1.now < length from.now }
     ensures way { (ns : List (List ℕ)) → (to : List ℕ) → Path ns from.now to → length to ≡ left → (w : Way ns from.now result.1.now to) × (starts w.gone from.now ≡ take result.0 block.new) }
@@ -60,13 +59,14 @@ fn stands_before(
 // Where the first element from here on starts that has the name of one of the block before it. Only elements before the last `stop` bytes count: without such a one the answer is `stop`.
 fn first_known(body: &[u8], block: &[u32], from: &[u8], stop: usize) -> usize
     requires sorted { InOrder body.now block.now }
+    requires small { length from.now ≤ LONGEST }
     requires end { IsEnd body.now from.now }
     ensures least { stop ≤ result }
     ensures most { result ≤ max stop (length from.now) }
     ensures first { (ns : List (List ℕ)) → (to : List ℕ) → Path ns from.now to → length to ≤ stop → FirstKnown body.now block.now (starts ns from.now) stop result }
 {
-    // Another hash for each block: names that fall into few slots for one block don't for the others.
-    let factor = (from.len() % 4294967296) as u32 | 1;
+    // Another hash for each block: names that share their slots in one block don't in the others.
+    let factor = (from.len() as u32).wrapping_mul(2654435761) | 1;
     let mut words = [0u64; WORDS];
     mark(factor, body, block, &mut words);
     let mut rest = from;
@@ -83,7 +83,8 @@ fn first_known(body: &[u8], block: &[u32], from: &[u8], stop: usize) -> usize
     stop
 }
 
-// The first name that stands before it too, by its place.
+// The first name that stands before it too, by its place. Its table takes 128 KiB of the stack, so it stays a frame of its own.
+#[inline(never)]
 pub(crate) fn in_blocks(end: usize, body: &[u8], left: usize) -> Option<usize>
     requires fits { length body.now ≤ end }
     requires small { length body.now ≤ LONGEST }
@@ -93,7 +94,7 @@ pub(crate) fn in_blocks(end: usize, body: &[u8], left: usize) -> Option<usize>
     let mut rest = body;
     let mut stop = left;
     'parts: while stop < rest.len() {
-        let (count, after) = fill(body, rest, left, &mut table);
+        let (count, after) = fill(rest, left, &mut table);
         let block = &mut table[..count];
         sort(body, block);
         stop = first_known(body, block, rest, stop);

@@ -1,4 +1,4 @@
-use Rattle.std.proofs.Common.{◌≡◌, ◌+◌, ◌<◌, ◌++◌, ◌∷◌, [], ℕ, List, length, take, refl, sym, ap, subst, ◌∙◌, arith, length-set}
+use Rattle.std.proofs.Common.{◌≡◌, ◌<◌, ◌++◌, ◌∷◌, [], ℕ, List, length, refl, sym, ap, subst, ◌∙◌, arith, length-set}
 use Rattle.std.proofs.lemmas.List.{take_more_set}
 use Rattle.bson_check.specs.Passing.{first_name, passed}
 use Rattle.bson_check.specs.Blocks.{IsEnd, starts}
@@ -7,7 +7,7 @@ use Rattle.bson_check.proofs.blocks.fill.Goals as goal
 
 pub names-init : goal.names-init
 names-init c = record {
-  end = c.requires.end;
+  end = λ body e. e;
   count = omega arith;
   less = omega arith;
   way = λ ns to p e. (way_start ns c.args.from.now to p, refl);
@@ -20,7 +20,7 @@ names-preserved c =
     let is : passed rest ≡ next = ap passed c.in-Some.ensures.cases.0 ∙ sym c.step.ensures.after in
     let less : length next < length rest = omega (arith, c.step.ensures.fits, ap length c.in-Some.ensures.cases.0) in
     record {
-      end = subst (IsEnd c.args.body.now) is (end_on c.args.body.now rest c.names.invariant.end);
+      end = λ body e. subst (IsEnd body) is (end_on body rest (c.names.invariant.end body e));
       count = omega (arith, length-set {A = ℕ}, c.if-block-count.false);
       less = omega (arith, less, c.names.invariant.less);
       way = λ ns to p e.

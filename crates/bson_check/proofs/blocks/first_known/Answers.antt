@@ -1,7 +1,7 @@
-use Rattle.std.proofs.Common.{◌≡◌, ◌<◌, ◌≤◌, ℕ, List, length, true, refl, sym, ap, subst, ◌∙◌, arith, Contains}
-use Rattle.bson_check.specs.Passing.{Path, first_name, passed}
-use Rattle.bson_check.specs.Blocks.{IsEnd, name_at, starts, Known, Way}
-use Rattle.bson_check.proofs.Starts.{end_on, way_start, way_on, name_here, first_none, first_here, none_on}
+use Rattle.std.proofs.Common.{◌≡◌, ◌<◌, ℕ, List, length, sym, ap, subst, ◌∙◌, arith}
+use Rattle.bson_check.specs.Passing.{first_name, passed}
+use Rattle.bson_check.specs.Blocks.{IsEnd, Known}
+use Rattle.bson_check.proofs.Starts.{end_on, way_start, name_here, first_none, first_here, none_on}
 use Rattle.bson_check.proofs.blocks.first_known.Goals as goal
 
 pub names-init : goal.names-init

@@ -1,6 +1,5 @@
-use Rattle.std.proofs.Common.{◌≡◌, ◌+◌, ◌<◌, ◌≤◌, ℕ, List, length, take, refl, sym, ap, subst, ◌∙◌, arith, Contains}
+use Rattle.std.proofs.Common.{ℕ, List, take, sym, subst, arith, Contains}
 use Rattle.std.proofs.lemmas.List.Sorted.{Contains-permutation, IsPermutation-sym}
-use Rattle.bson_check.specs.Blocks.{starts}
 use Rattle.bson_check.proofs.Starts.{end_itself, searched_start, searched_on, stop_is_first, none_repeats}
 use Rattle.bson_check.proofs.blocks.in_blocks.Goals as goal
 
@@ -20,7 +19,7 @@ parts-preserved c =
     let after = c.fill-count.result.1.now in
     let block = c.sort.new.block in
     record {
-      end = c.fill-count.ensures.end;
+      end = c.fill-count.ensures.end c.args.body.now inv.end;
       fits = omega (arith, c.fill-count.ensures.fits, inv.fits);
       least = omega (arith, c.first_known-stop.ensures.least, inv.least);
       most = omega (arith, c.first_known-stop.ensures.most, inv.most, inv.fits);

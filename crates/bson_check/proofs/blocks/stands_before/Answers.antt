@@ -1,4 +1,4 @@
-use Rattle.std.proofs.Common.{◌≡◌, true, false, IsTrue, sym, ap, subst, ◌∙◌}
+use Rattle.std.proofs.Common.{sym, subst, ◌∙◌}
 use Rattle.bson_check.specs.Slots.{IsMarked}
 use Rattle.bson_check.proofs.blocks.stands_before.Goals as goal
 

@@ -1,4 +1,4 @@
-use Rattle.std.proofs.Common.{◌≡◌, ◌/◌, ◌<◌, ℕ, take, length, slice_index, sym, ap, ◌∙◌, arith}
+use Rattle.std.proofs.Common.{◌/◌, ◌<◌, length, arith}
 use Rattle.bson_check.proofs.Marks.{marks_more}
 use Rattle.bson_check.proofs.slots.mark.Goals as goal
 

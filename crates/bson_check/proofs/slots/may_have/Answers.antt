@@ -1,4 +1,3 @@
-use Rattle.std.proofs.Common.{IsTrue, ap, subst, ◌∙◌, sym}
 use Rattle.bson_check.proofs.Marks.{test_is_true}
 use Rattle.bson_check.proofs.slots.may_have.Goals as goal
 

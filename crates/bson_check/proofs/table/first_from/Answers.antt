@@ -1,4 +1,4 @@
-use Rattle.std.proofs.Common.{◌≡◌, sym, ◌∙◌, arith}
+use Rattle.std.proofs.Common.{sym, ◌∙◌, arith}
 use Rattle.bson_check.proofs.Order.{low_before, high_behind}
 use Rattle.bson_check.proofs.table.first_from.Goals as goal
 

@@ -1,7 +1,6 @@
-use Rattle.std.proofs.Common.{◌≡◌, true, sym, ap, ◌∙◌, slice_index, arith}
+use Rattle.std.proofs.Common.{sym, ◌∙◌, slice_index, arith}
 use Rattle.std.proofs.lemmas.Slice.Eq.{bytes_eq-Decides}
 use Rattle.std.proofs.lemmas.List.Elements.{Contains-get_or}
-use Rattle.bson_check.specs.Blocks.{name_at}
 use Rattle.bson_check.proofs.Order.{known_is_first}
 use Rattle.bson_check.proofs.table.is_known.Goals as goal
 
