@@ -1,6 +1,7 @@
 //! Whether bytes are a document of BSON, and else the first fault.
 #![tactic(auto)]
 
+mod blocks;
 mod checking;
 mod fault;
 mod laws;
@@ -8,6 +9,8 @@ mod length;
 pub mod parts;
 pub mod passing;
 pub mod repeats;
+mod slots;
+mod table;
 
 pub use checking::check;
 pub use fault::{BsonFault, BsonKind, DecodeFault};
