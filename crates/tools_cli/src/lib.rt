@@ -13,3 +13,6 @@ pub use archive::{ArchiveFault, Form};
 pub use status::Status;
 pub use top::tools;
 pub use words::{Choice, Command, Verb, WordsFault};
+
+#[cfg(test)]
+mod tests;
