@@ -9,10 +9,11 @@ use Rattle.tools_cli.specs.declared.archive.Form.{Form}
 use Rattle.tools_cli.specs.declared.archive.Form.TheVariants as forms
 use Rattle.tools_cli.specs.declared.words.Verb.{Verb}
 use Rattle.tools_cli.specs.declared.words.Verb.TheVariants as verbs
-use Rattle.tools_cli.specs.Archive.{form_of}
+use Rattle.tools_cli.specs.Archive.{IsPrelude, form_of}
 use Rattle.tools_cli.specs.Words.{Meaning}
 use Rattle.tools_cli.specs.Ends.{Turn, Same, Failed, Writes, WritesFront, ReadsWhole}
 use Rattle.tools_cli.specs.Answers.{Says, Told, Reports, RunsOut, Answers, HasForm, OfVerb, Restores, Done, shown, shown_by, code_of, form_code, code_by, due_code, IsDue}
+use Rattle.tools_cli.proofs.Accepted.{is_accepted}
 use Rattle.tools_cli.proofs.Telling.{whole_front, told_front, keeps_front}
 
 -- The status that is due.
@@ -41,7 +42,7 @@ due_restored (Ok c) form i o restores h =
     subst P (sym restores) (is_due (code_by verbs.Restore i.before.bytes) (form_code form) i o (due_form form i.before.bytes i.after.bytes h.0 h.1.taken h.1.ended h.2))
 
 pub due_by : (v : Verb) (i o : Turn) → Done i o v → IfSome (code_by v i.before.bytes) (IsDue 0 i o)
-due_by verbs.Restore i o h = is_due (code_by verbs.Restore i.before.bytes) 0 i o (due_form forms.Prelude i.before.bytes i.after.bytes h.0.0 h.0.1.taken h.0.1.ended h.0.2)
+due_by verbs.Restore i o h = is_due (code_by verbs.Restore i.before.bytes) 0 i o (due_form forms.Prelude i.before.bytes i.after.bytes h.0.0 h.0.1.taken h.0.1.ended (is_accepted h.0.0 h.0.2))
 due_by verbs.Help i o h = inl refl
 due_by verbs.Version i o h = inl refl
 
@@ -51,6 +52,15 @@ due_done (Ok c) i o h = due_by c.0 i o h
 
 pub due_usage : (m : Meaning) (at : ℕ) (i o : Turn) → m ≡ Err at → IfSome (due_code m i.before.bytes) (IsDue 1 i o)
 due_usage m at i o e = let P : Meaning → Type 0 = λ n. IfSome (due_code n i.before.bytes) (IsDue 1 i o) in subst P (sym e) (inl refl)
+
+-- a prelude that was told is due to be accepted
+pub due_accepted : (m : Meaning) (code : ℕ) (i o : Turn) → IfSome (due_code m i.before.bytes) (IsDue code i o) → Restores m → (bytes : List ℕ) → i.before.bytes ≡ Some bytes → IsPrelude bytes → IsDue code i o 0
+due_accepted (Err at) code i o due restores bytes is prelude = absurd restores
+due_accepted (Ok c) code i o due restores bytes is prelude =
+    let P : Verb → Type 0 = λ v. IfSome (code_by v i.before.bytes) (IsDue code i o) in
+    let Q : Option (List ℕ) → Type 0 = λ known. IfSome (code_by verbs.Restore known) (IsDue code i o) in
+    let R : Form → Type 0 = λ form. IsDue code i o (form_code form) in
+    subst R (is_accepted bytes prelude) (subst Q is (subst P restores due))
 
 -- What was written so far is a front of what the command shows.
 
@@ -81,6 +91,7 @@ told_answers m is.Done i o r h t = record {
   no_memory = λ e. absurd cc;
   unbuilt = λ e. absurd cc;
   due = due_done m i o h;
+  accepted = due_accepted m _ i o (due_done m i o h);
 }
 told_answers m (is.Usage at) i o r h t = record {
   done = λ e. absurd cc;
@@ -91,6 +102,7 @@ told_answers m (is.Usage at) i o r h t = record {
   no_memory = λ e. absurd cc;
   unbuilt = λ e. absurd cc;
   due = due_usage m at i o h.0;
+  accepted = due_accepted m _ i o (due_usage m at i o h.0);
 }
 told_answers m (is.BadArchive f) i o r h t = record {
   done = λ e. absurd cc;
@@ -101,6 +113,7 @@ told_answers m (is.BadArchive f) i o r h t = record {
   no_memory = λ e. absurd cc;
   unbuilt = λ e. absurd cc;
   due = due_restored m (forms.Bad f) i o h.0 h.1;
+  accepted = due_accepted m _ i o (due_restored m (forms.Bad f) i o h.0 h.1);
 }
 told_answers m is.ReadFault i o r h t = record {
   done = λ e. absurd cc;
@@ -111,6 +124,7 @@ told_answers m is.ReadFault i o r h t = record {
   no_memory = λ e. absurd cc;
   unbuilt = λ e. absurd cc;
   due = not_due (due_code m i.before.bytes) 9 i o (inl (refl, h.1));
+  accepted = due_accepted m _ i o (not_due (due_code m i.before.bytes) 9 i o (inl (refl, h.1)));
 }
 told_answers m is.WriteFault i o r h t = record {
   done = λ e. absurd cc;
@@ -121,6 +135,7 @@ told_answers m is.WriteFault i o r h t = record {
   no_memory = λ e. absurd cc;
   unbuilt = λ e. absurd cc;
   due = not_due (due_code m i.before.bytes) 10 i o (inr (inl (refl, h.0)));
+  accepted = due_accepted m _ i o (not_due (due_code m i.before.bytes) 10 i o (inr (inl (refl, h.0))));
 }
 told_answers m is.NoMemory i o r h t = record {
   done = λ e. absurd cc;
@@ -131,6 +146,7 @@ told_answers m is.NoMemory i o r h t = record {
   unbuilt = λ e. absurd cc;
   no_memory = λ _. (h, (is.NoMemory, h, inl (told_front r _ t)));
   due = not_due (due_code m i.before.bytes) 11 i o (inr (inr refl));
+  accepted = due_accepted m _ i o (not_due (due_code m i.before.bytes) 11 i o (inr (inr refl)));
 }
 told_answers m is.Unbuilt i o r h t = record {
   done = λ e. absurd cc;
@@ -141,6 +157,7 @@ told_answers m is.Unbuilt i o r h t = record {
   no_memory = λ e. absurd cc;
   unbuilt = λ _. (h.0, h.1, h.2, t);
   due = due_restored m forms.Unbuilt i o h.0 h.1;
+  accepted = due_accepted m _ i o (due_restored m forms.Unbuilt i o h.0 h.1);
 }
 
 pub out_answers : (m : Meaning) (s : Status) (i o r : Turn) → Says m s i o → RunsOut s r → Answers m 11 i o r
@@ -153,6 +170,7 @@ out_answers m s i o r h t = record {
   unbuilt = λ e. absurd cc;
   no_memory = λ _. (says_front m s i o h, (s, h, t));
   due = not_due (due_code m i.before.bytes) 11 i o (inr (inr refl));
+  accepted = due_accepted m _ i o (not_due (due_code m i.before.bytes) 11 i o (inr (inr refl)));
 }
 
 pub answers : (m : Meaning) (s f : Status) (i o r : Turn) → Says m s i o → Told s f r → Answers m (code_of f) i o r

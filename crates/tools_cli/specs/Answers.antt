@@ -12,7 +12,7 @@ use Rattle.tools_cli.specs.declared.status.Status.{Status}
 use Rattle.tools_cli.specs.declared.status.Status.TheVariants as is
 use Rattle.tools_cli.specs.declared.texts.TheConstants.{HELP, VERSION}
 use Rattle.tools_cli.specs.Words.{Meaning}
-use Rattle.tools_cli.specs.Archive.{form_of}
+use Rattle.tools_cli.specs.Archive.{IsPrelude, form_of}
 use Rattle.tools_cli.specs.Ends.{Turn, Same, Failed, Writes, WritesFront, Tells, ReadsWhole}
 
 -- The number of each status, and its line.
@@ -74,7 +74,7 @@ abbrev pub HasForm : Form → Turn → Type 0
 HasForm form input = (bytes : List ℕ) × ReadsWhole input bytes × (form_of bytes ≡ form)
 
 abbrev pub Done : Turn → Turn → Verb → Type 0
-Done input output verbs.Restore = HasForm forms.Prelude input × Same output
+Done input output verbs.Restore = ((bytes : List ℕ) × ReadsWhole input bytes × IsPrelude bytes) × Same output
 Done input output verbs.Help = Same input × Writes output (shown_by verbs.Help)
 Done input output verbs.Version = Same input × Writes output (shown_by verbs.Version)
 
@@ -146,3 +146,5 @@ pub record Answers (m : Meaning) (code : ℕ) (input output report : Turn) : Typ
   pub no_memory : code ≡ 11 → WritesFront output (shown m) × ((s : Status) × Says m s input output × RunsOut s report)
   pub unbuilt : code ≡ 12 → Restores m × HasForm forms.Unbuilt input × Same output × Tells report (codes "unbuilt\n")
   pub due : IfSome (due_code m input.before.bytes) (IsDue code input output)
+  -- a prelude alone is accepted
+  pub accepted : Restores m → (bytes : List ℕ) → input.before.bytes ≡ Some bytes → IsPrelude bytes → IsDue code input output 0

@@ -5,7 +5,7 @@ usage: suzhimanu restore --archive --form=hex < ARCHIVE
        suzhimanu --help
        suzhimanu --version
 
-restore  reads an archive of mongodump from standard input
+restore  reads an archive from standard input and lists what it restores
 
   --archive   the input is an archive (needed)
   --form=hex  documents are listed by their bytes, in hexadecimal (needed)

@@ -25,6 +25,7 @@ fn show<K: Sink>(text: &str, output: &mut K) -> Status
 }
 
 // What the command does, without its line on the report.
+#[tactic(auto, using(crate::proofs::Accepted::accepted_is))]
 fn perform<S: Source, K: Sink>(
     alloc: Global,
     command: &Command,
