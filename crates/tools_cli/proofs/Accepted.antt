@@ -1,13 +1,11 @@
 -- A prelude is what the tests of its form accept, and nothing else.
-use Rattle.std.proofs.Common.{◌≡◌, ℕ, ◌+◌, ◌-◌, ◌≤◌, Bool, true, false, ltb, List, [], ◌∷◌, ◌++◌, length, take, drop, refl, sym, ◌∙◌, ap, subst, arith, append_assoc, cond}
+use Rattle.std.proofs.Common.{◌≡◌, ℕ, ◌+◌, ◌-◌, ◌≤◌, Bool, true, false, ltb, List, ◌++◌, length, take, drop, refl, sym, ◌∙◌, ap, arith}
 use Rattle.std.specs.Prelude.{◌&&◌, if◌then◌else◌, nat_lt}
 use Rattle.std.specs.Str.{bytes_eq}
 use Rattle.std.proofs.lemmas.Bool.{le-ltb, ltb-false}
 use Rattle.std.proofs.lemmas.List.{take-append-drop, drop-drop, take_at, drop_at, length-append}
 use Rattle.std.proofs.lemmas.Slice.Eq.{bytes_eq-Decides}
-use Rattle.tools_cli.specs.declared.archive.Form.{Form}
 use Rattle.tools_cli.specs.declared.archive.Form.TheVariants as forms
-use Rattle.tools_cli.specs.declared.archive.ArchiveFault.TheVariants as refusals
 use Rattle.tools_cli.specs.Archive.{magic, terminator, is_header, IsPrelude, header_of, last_of, form_of}
 
 -- what a chain of tests says where its answer is this one

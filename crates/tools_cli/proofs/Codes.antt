@@ -1,7 +1,7 @@
 -- What a call says, by the number of its status.
 use Rattle.std.proofs.Common.{ℕ, ◌≡◌, List, inl, inr, refl, sym, ◌∙◌, ap, subst}
-use Rattle.std.specs.Prelude.{Option, None, Some, Ok, Err, [], ◌++◌, ◌⊎◌, IfSome}
-use Rattle.std.specs.Io.KnownBytes.{Keeps, Consumes, IsAtEnd}
+use Rattle.std.specs.Prelude.{Option, None, Some, Ok, Err, ◌++◌, ◌⊎◌, IfSome}
+use Rattle.std.specs.Io.KnownBytes.{Consumes, IsAtEnd}
 use Rattle.std.proofs.lemmas.List.{append-nil}
 use Rattle.tools_cli.specs.declared.status.Status.{Status}
 use Rattle.tools_cli.specs.declared.status.Status.TheVariants as is
@@ -11,7 +11,7 @@ use Rattle.tools_cli.specs.declared.words.Verb.{Verb}
 use Rattle.tools_cli.specs.declared.words.Verb.TheVariants as verbs
 use Rattle.tools_cli.specs.Archive.{IsPrelude, form_of}
 use Rattle.tools_cli.specs.Words.{Meaning}
-use Rattle.tools_cli.specs.Ends.{Turn, Same, Failed, Writes, WritesFront, ReadsWhole}
+use Rattle.tools_cli.specs.Ends.{Turn, Failed, WritesFront}
 use Rattle.tools_cli.specs.Answers.{Says, Told, Reports, RunsOut, Answers, HasForm, OfVerb, Restores, Done, shown, shown_by, code_of, form_code, code_by, due_code, IsDue}
 use Rattle.tools_cli.proofs.Accepted.{is_accepted}
 use Rattle.tools_cli.proofs.Telling.{whole_front, told_front, keeps_front}

@@ -1,6 +1,6 @@
 -- A line that was told, or some front of it.
-use Rattle.std.proofs.Common.{ℕ, ◌≡◌, List, inl, inr, refl, ap, sym, subst, ◌∙◌}
-use Rattle.std.specs.Prelude.{Option, None, Some, [], ◌++◌, ◌⊎◌, take, length}
+use Rattle.std.proofs.Common.{ℕ, ◌≡◌, List, inl, inr, sym, subst, ◌∙◌}
+use Rattle.std.specs.Prelude.{Option, None, Some, ◌⊎◌, length}
 use Rattle.std.specs.Io.KnownBytes.{Keeps, Appends}
 use Rattle.std.proofs.Math.Seq.{take-length}
 use Rattle.std.proofs.lemmas.List.{append-nil}

@@ -1,6 +1,5 @@
 -- What each status says of the words and of the ends that were lent.
-use Rattle.std.specs.Prelude.{◌≡◌, ◌⊎◌, ℕ, ⊤, Bool, true, List, [], ◌∷◌, ◌++◌, ◌==◌, Option, Some, None, Ok, Err, IfSome, codes}
-use Rattle.std.specs.List.{list_any}
+use Rattle.std.specs.Prelude.{◌≡◌, ◌⊎◌, ℕ, List, [], ◌∷◌, ◌++◌, Option, Some, None, Ok, Err, IfSome, codes}
 use Rattle.std.specs.Fmt.{decimal}
 use Rattle.tools_cli.specs.declared.words.Verb.{Verb}
 use Rattle.tools_cli.specs.declared.words.Verb.TheVariants as verbs

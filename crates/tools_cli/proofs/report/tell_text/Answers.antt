@@ -1,4 +1,3 @@
-use Rattle.std.proofs.Common.{inl, inr}
 use Rattle.tools_cli.proofs.Telling.{no_line}
 use Rattle.tools_cli.proofs.report.tell_text.Goals as goal
 

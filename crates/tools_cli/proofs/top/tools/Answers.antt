@@ -1,6 +1,6 @@
 use Rattle.std.proofs.Common.{sym, subst, ℕ}
 use Rattle.tools_cli.specs.Words.{meaning_of, texts_of}
-use Rattle.tools_cli.specs.Ends.{Turn, turn}
+use Rattle.tools_cli.specs.Ends.{turn}
 use Rattle.tools_cli.specs.Answers.{Answers}
 use Rattle.tools_cli.proofs.Codes.{answers}
 use Rattle.tools_cli.proofs.top.tools.Goals as goal
