@@ -1,4 +1,10 @@
 pub mod Loop
 pub mod Walk
 pub mod Split
+pub mod Search
 pub mod Texts
+pub mod Cutting
+pub mod Again
+pub mod Found
+pub mod Height
+pub mod Whole

@@ -1,15 +1,16 @@
 -- Reading fields first and looking for a repeated name after: the same answer.
-use Rattle.std.proofs.Common.{◌≡◌, ℕ, zero, suc, ◌+◌, ◌-◌, ◌<◌, ◌≤◌, Bool, true, false, cond, List, [], ◌∷◌, ◌++◌, length, take, drop, Result, Ok, Err, refl, sym, ap, subst, ◌∙◌, append_assoc, arith}
+use Rattle.std.proofs.Common.{◌≡◌, ℕ, ◌-◌, ◌≤◌, Bool, true, false, cond, List, [], ◌∷◌, ◌++◌, length, drop, Result, Ok, Err, refl, sym, ap, subst, ◌∙◌, append_assoc, arith}
 use Rattle.std.specs.Prelude.{Option, Some, None}
-use Rattle.std.specs.Str.{is_utf8}
+use Rattle.std.specs.Str.{is_utf8, bytes_eq}
+use Rattle.std.proofs.lemmas.Slice.Eq.{bytes_eq-Decides}
 use Rattle.std.proofs.lemmas.List.{append-nil}
 use Rattle.bson_check.specs.declared.fault.BsonFault.{BsonFault}
 use Rattle.bson_check.specs.declared.fault.BsonKind.TheVariants as kinds
 use Rattle.bson_check.specs.declared.fault.DecodeFault.TheVariants as errors
 use Rattle.bson_value.specs.declared.value.Value.{Value}
-use Rattle.containers.specs.Entries.{names_of}
-use Rattle.bson_check.specs.Reading.{◌>>=◌, Taken, Reader, place, fails, name_at, named, is_type, field_at, void}
-use Rattle.bson_check.specs.Passing.{first_name, passed, Path, has, Tops, repeat_at, head_at, fault_of}
+use Rattle.containers.specs.Entries.{names_of, IsAbsent, AreDistinct}
+use Rattle.bson_check.specs.Reading.{◌>>=◌, Taken, Reader, place, fails, name_at, named, is_type, field_at, fields_at}
+use Rattle.bson_check.specs.Passing.{first_name, passed, Path, has, repeat_at, head_at, fault_of}
 use Rattle.bson_check.proofs.Loop.{FieldsLeft, field_goes_on, field_ends, fields_done}
 use Rattle.bson_check.proofs.Walk.{known_is, not_known, path_push, names_of-push}
 
@@ -50,121 +51,117 @@ module _ (read : Reader) (end : ℕ) (done : List (List ℕ × Value)) (tag : �
   unfolding field_at
   field_form = form (is_type tag) (name_at end bytes)
 
--- reading on, where no name came twice so far; else the answer is known
-abbrev pub State : Reader → ℕ → List ℕ → Result (List (List ℕ × Value)) BsonFault → List (List ℕ) → Option ℕ → Type 0
-State read end rest total ns None = (done : List (List ℕ × Value)) × (names_of done ≡ ns) × FieldsLeft read end done rest total
-State read end rest total ns (Some q) = total ≡ fails kinds.Repeat q
+-- reading on behind these fields, where no name came twice; else the answer is known
+abbrev pub State : Reader → ℕ → List ℕ → Result (List (List ℕ × Value)) BsonFault → List (List ℕ × Value) → Option ℕ → Type 0
+State read end rest total done None = FieldsLeft read end done rest total
+State read end rest total done (Some q) = total ≡ fails kinds.Repeat q
 
-pub record Split (read : Reader) (end : ℕ) (body rest : List ℕ) (total : Result (List (List ℕ × Value)) BsonFault) : Type 0 where
-  pub ns : List (List ℕ)
-  pub path : Path ns body rest
-  pub state : State read end rest total ns (repeat_at end [] ns body)
+-- these fields were read from the body up to here
+pub record Split (read : Reader) (end : ℕ) (body rest : List ℕ) (done : List (List ℕ × Value)) (total : Result (List (List ℕ × Value)) BsonFault) : Type 0 where
+  pub path : Path (names_of done) body rest
+  pub state : State read end rest total done (repeat_at end [] (names_of done) body)
 
 -- the answer behind the search, where the walk met this
 abbrev pub answer : {A : Type 0} → Option ℕ → Result A BsonFault → Result A BsonFault
 answer (Some q) r = fails kinds.Repeat q
 answer None r = r
 
-module _ (read : Reader) (end : ℕ) (body : List ℕ) (total : Result (List (List ℕ × Value)) BsonFault) (tag : ℕ) (bytes rest : List ℕ) (is : rest ≡ tag ∷ bytes) where
-  head_state : (ns : List (List ℕ)) (f : BsonFault) → head_at end tag bytes ≡ Err f → (o : Option ℕ) → State read end rest total ns o → total ≡ answer o (Err f)
-  head_state ns f e (Some q) s = s
-  head_state ns f e None s = field_ends read end s.0 total tag bytes rest (errors.Bad f) is (field_form read end s.0 tag bytes ∙ ap (λ (r : Taken (List ℕ)). r >>= behind_name read end s.0 tag bytes) e) s.2
+-- no element was read yet
+pub split_starts : (read : Reader) (end : ℕ) (body : List ℕ) (total : Result (List (List ℕ × Value)) BsonFault) → fields_at read (length body) end [] body ≡ total → Split read end body body [] total
+split_starts read end body total same = record { path = refl; state = record { turns = length body; enough = omega arith; same = same } }
+
+module _ (read : Reader) (end : ℕ) (body : List ℕ) (done : List (List ℕ × Value)) (total : Result (List (List ℕ × Value)) BsonFault) (tag : ℕ) (bytes rest : List ℕ) (is : rest ≡ tag ∷ bytes) where
+  head_state : (f : BsonFault) → head_at end tag bytes ≡ Err f → (o : Option ℕ) → State read end rest total done o → total ≡ answer o (Err f)
+  head_state f e (Some q) s = s
+  head_state f e None s = field_ends read end done total tag bytes rest (errors.Bad f) is (field_form read end done tag bytes ∙ ap (λ (r : Taken (List ℕ)). r >>= behind_name read end done tag bytes) e) s
 
   -- the head of an element fails
-  pub head_fails : (f : BsonFault) → head_at end tag bytes ≡ Err f → (s : Split read end body rest total) → total ≡ answer (repeat_at end [] s.ns body) (Err f)
-  head_fails f e s = head_state s.ns f e (repeat_at end [] s.ns body) s.state
+  pub head_fails : (f : BsonFault) → head_at end tag bytes ≡ Err f → Split read end body rest done total → total ≡ answer (repeat_at end [] (names_of done) body) (Err f)
+  head_fails f e s = head_state f e (repeat_at end [] (names_of done) body) s.state
 
   module _ (h : List ℕ × List ℕ) (head : head_at end tag bytes ≡ Ok h) where
-    field_is : (done : List (List ℕ × Value)) (b : Bool) → has h.0 (names_of done) ≡ b → field_at read end done tag bytes ≡ cond b (fails kinds.Repeat (place end bytes)) (read tag end h.1 >>= joined h.0)
-    field_is done b e = field_form read end done tag bytes ∙ ap (λ (r : Taken (List ℕ)). r >>= behind_name read end done tag bytes) head ∙ ap (λ (c : Bool). cond c (fails kinds.Repeat (place end bytes)) (read tag end h.1 >>= joined h.0)) e
+    field_is : (b : Bool) → has h.0 (names_of done) ≡ b → field_at read end done tag bytes ≡ cond b (fails kinds.Repeat (place end bytes)) (read tag end h.1 >>= joined h.0)
+    field_is b e = field_form read end done tag bytes ∙ ap (λ (r : Taken (List ℕ)). r >>= behind_name read end done tag bytes) head ∙ ap (λ (c : Bool). cond c (fails kinds.Repeat (place end bytes)) (read tag end h.1 >>= joined h.0)) e
 
-    value_state : (ns : List (List ℕ)) (f : BsonFault) → read tag end h.1 ≡ Err f → (o : Option ℕ) (b : Bool) → has h.0 ns ≡ b → State read end rest total ns o → total ≡ answer (found_or o b (place end bytes)) (Err f)
-    value_state ns f e (Some q) b k s = s
-    value_state ns f e None true k s = field_ends read end s.0 total tag bytes rest (errors.Bad (record { kind = kinds.Repeat; at = place end bytes })) is (field_is s.0 true (ap (λ (l : List (List ℕ)). has h.0 l) s.1 ∙ k)) s.2
-    value_state ns f e None false k s = field_ends read end s.0 total tag bytes rest (errors.Bad f) is (field_is s.0 false (ap (λ (l : List (List ℕ)). has h.0 l) s.1 ∙ k) ∙ ap (λ (r : Taken Value). r >>= joined h.0) e) s.2
+    value_state : (f : BsonFault) → read tag end h.1 ≡ Err f → (o : Option ℕ) (b : Bool) → has h.0 (names_of done) ≡ b → State read end rest total done o → total ≡ answer (found_or o b (place end bytes)) (Err f)
+    value_state f e (Some q) b k s = s
+    value_state f e None true k s = field_ends read end done total tag bytes rest (errors.Bad (record { kind = kinds.Repeat; at = place end bytes })) is (field_is true k) s
+    value_state f e None false k s = field_ends read end done total tag bytes rest (errors.Bad f) is (field_is false k ∙ ap (λ (r : Taken Value). r >>= joined h.0) e) s
 
     at_rest : place end (drop 1 rest) ≡ place end bytes
     at_rest = ap (λ (l : List ℕ). place end (drop 1 l)) is
 
-    pushed : (s : Split read end body rest total) → repeat_at end [] (s.ns ++ h.0 ∷ []) body ≡ found_or (repeat_at end [] s.ns body) (has h.0 s.ns) (place end bytes)
-    pushed s = repeat-push end [] s.ns h.0 body rest s.path ∙ ap (λ (k : ℕ). found_or (repeat_at end [] s.ns body) (has h.0 s.ns) k) at_rest
+    pushed : Path (names_of done) body rest → repeat_at end [] (names_of done ++ h.0 ∷ []) body ≡ found_or (repeat_at end [] (names_of done) body) (has h.0 (names_of done)) (place end bytes)
+    pushed path = repeat-push end [] (names_of done) h.0 body rest path ∙ ap (λ (k : ℕ). found_or (repeat_at end [] (names_of done) body) (has h.0 (names_of done)) k) at_rest
 
     -- its value fails: the name counts
-    pub value_fails : (f : BsonFault) → read tag end h.1 ≡ Err f → (s : Split read end body rest total) → total ≡ answer (repeat_at end [] (s.ns ++ h.0 ∷ []) body) (Err f)
-    value_fails f e s = value_state s.ns f e (repeat_at end [] s.ns body) (has h.0 s.ns) refl s.state ∙ ap (λ (o : Option ℕ). answer o (Err f)) (sym (pushed s))
+    pub value_fails : (f : BsonFault) → read tag end h.1 ≡ Err f → Split read end body rest done total → total ≡ answer (repeat_at end [] (names_of done ++ h.0 ∷ []) body) (Err f)
+    value_fails f e s = value_state f e (repeat_at end [] (names_of done) body) (has h.0 (names_of done)) refl s.state ∙ ap (λ (o : Option ℕ). answer o (Err f)) (sym (pushed s.path))
 
-    on_state : (ns : List (List ℕ)) (v : Value) (after : List ℕ) → read tag end h.1 ≡ Ok (v, after) → length after ≤ length bytes → (o : Option ℕ) (b : Bool) → has h.0 ns ≡ b → State read end rest total ns o → State read end after total (ns ++ h.0 ∷ []) (found_or o b (place end bytes))
-    on_state ns v after e le (Some q) b k s = s
-    on_state ns v after e le None true k s = field_ends read end s.0 total tag bytes rest (errors.Bad (record { kind = kinds.Repeat; at = place end bytes })) is (field_is s.0 true (ap (λ (l : List (List ℕ)). has h.0 l) s.1 ∙ k)) s.2
-    on_state ns v after e le None false k s =
-        (s.0 ++ (h.0, v) ∷ [], names_of-push s.0 (h.0, v) ∙ ap (λ (l : List (List ℕ)). l ++ h.0 ∷ []) s.1,
-         field_goes_on read end s.0 total tag bytes rest (h.0, v) after is (field_is s.0 false (ap (λ (l : List (List ℕ)). has h.0 l) s.1 ∙ k) ∙ ap (λ (r : Taken Value). r >>= joined h.0) e) le s.2)
+    on_state : (v : Value) (after : List ℕ) → read tag end h.1 ≡ Ok (v, after) → length after ≤ length bytes → (o : Option ℕ) (b : Bool) → has h.0 (names_of done) ≡ b → State read end rest total done o → State read end after total (done ++ (h.0, v) ∷ []) (found_or o b (place end bytes))
+    on_state v after e le (Some q) b k s = s
+    on_state v after e le None true k s = field_ends read end done total tag bytes rest (errors.Bad (record { kind = kinds.Repeat; at = place end bytes })) is (field_is true k) s
+    on_state v after e le None false k s = field_goes_on read end done total tag bytes rest (h.0, v) after is (field_is false k ∙ ap (λ (r : Taken Value). r >>= joined h.0) e) le s
 
     -- its value is read
-    pub element_passes : (v : Value) (after : List ℕ) → read tag end h.1 ≡ Ok (v, after) → length after ≤ length bytes → first_name (tag ∷ bytes) ≡ h.0 → after ≡ passed (tag ∷ bytes) → Split read end body rest total → Split read end body after total
+    pub element_passes : (v : Value) (after : List ℕ) → read tag end h.1 ≡ Ok (v, after) → length after ≤ length bytes → first_name (tag ∷ bytes) ≡ h.0 → after ≡ passed (tag ∷ bytes) → Split read end body rest done total → Split read end body after (done ++ (h.0, v) ∷ []) total
     element_passes v after e le n pass s = record {
-      ns = s.ns ++ h.0 ∷ [];
-      path = path_push s.ns h.0 body rest after s.path (omega (arith, le, ap length is)) (ap first_name is ∙ n) (ap passed is ∙ sym pass);
-      state = subst (λ (o : Option ℕ). State read end after total (s.ns ++ h.0 ∷ []) o) (sym (pushed s)) (on_state s.ns v after e le (repeat_at end [] s.ns body) (has h.0 s.ns) refl s.state);
+      path = subst (λ (ns : List (List ℕ)). Path ns body after) (sym (names_of-push done (h.0, v))) (path_push (names_of done) h.0 body rest after s.path (omega (arith, le, ap length is)) (ap first_name is ∙ n) (ap passed is ∙ sym pass));
+      state = subst (λ (o : Option ℕ). State read end after total (done ++ (h.0, v) ∷ []) o) (sym (ap (λ (ns : List (List ℕ)). repeat_at end [] ns body) (names_of-push done (h.0, v)) ∙ pushed s.path)) (on_state v after e le (repeat_at end [] (names_of done) body) (has h.0 (names_of done)) refl s.state);
     }
 
-module _ (read : Reader) (end : ℕ) (body : List ℕ) (total : Result (List (List ℕ × Value)) BsonFault) where
-  end_state : (ns : List (List ℕ)) (rest : List ℕ) → rest ≡ [] → (o : Option ℕ) → State read end rest total ns o → (done : List (List ℕ × Value)) × (total ≡ answer o (Ok done))
-  end_state ns rest is (Some q) s = ([], s)
-  end_state ns rest is None s = (s.0, fields_done read end s.0 total rest is s.2)
+module _ (read : Reader) (end : ℕ) (body : List ℕ) (done : List (List ℕ × Value)) (total : Result (List (List ℕ × Value)) BsonFault) where
+  end_state : (rest : List ℕ) → rest ≡ [] → (o : Option ℕ) → State read end rest total done o → total ≡ answer o (Ok done)
+  end_state rest is (Some q) s = s
+  end_state rest is None s = fields_done read end done total rest is s
 
   -- no element is left
-  pub split_ends : (rest : List ℕ) → rest ≡ [] → (s : Split read end body rest total) → (done : List (List ℕ × Value)) × (total ≡ answer (repeat_at end [] s.ns body) (Ok done))
-  split_ends rest is s = end_state s.ns rest is (repeat_at end [] s.ns body) s.state
+  pub split_ends : (rest : List ℕ) → rest ≡ [] → Split read end body rest done total → total ≡ answer (repeat_at end [] (names_of done) body) (Ok done)
+  split_ends rest is s = end_state rest is (repeat_at end [] (names_of done) body) s.state
 
--- ---- the search from the first element on
+pub as_fault : {A : Type 0} (total : Result A BsonFault) (o : Option ℕ) (f g : BsonFault) → total ≡ answer o (Err f) → fault_of o f ≡ g → total ≡ Err g
+as_fault total (Some q) f g e k = e ∙ ap (λ (x : BsonFault). Err x) k
+as_fault total None f g e k = e ∙ ap (λ (x : BsonFault). Err x) k
 
--- these names were seen from the body up to here, these are left, and the answer is that of looking on
-pub record Seen (end : ℕ) (body : List ℕ) (all : List (List ℕ)) (to top rest : List ℕ) : Type 0 where
-  pub seen : List (List ℕ)
-  pub ms : List (List ℕ)
-  pub so_far : Path seen body rest
-  pub path : Path ms rest to
-  pub tops : Tops top seen
-  pub same : repeat_at end [] all body ≡ repeat_at end seen ms rest
+pub as_end : {A : Type 0} (total : Result A BsonFault) (x : A) (o r : Option ℕ) → total ≡ answer o (Ok x) → o ≡ r → r ≡ None → total ≡ Ok x
+as_end total x o r e k n = e ∙ ap (λ (p : Option ℕ). answer p (Ok x)) (k ∙ n)
 
-pub seen_start : (end : ℕ) (body : List ℕ) (all : List (List ℕ)) (to top : List ℕ) → Path all body to → Seen end body all to top body
-seen_start end body all to top p = record { seen = []; ms = all; so_far = refl; path = p; tops = λ m e. refl; same = refl }
+pub as_repeat : {A : Type 0} (total : Result A BsonFault) (x : A) (o r : Option ℕ) (q : ℕ) → total ≡ answer o (Ok x) → o ≡ r → r ≡ Some q → total ≡ fails kinds.Repeat q
+as_repeat total x o r q e k n = e ∙ ap (λ (p : Option ℕ). answer p (Ok x)) (k ∙ n)
 
-pub seen_end : (end : ℕ) (body : List ℕ) (all : List (List ℕ)) (to top rest : List ℕ) → length rest ≤ length to → Seen end body all to top rest → repeat_at end [] all body ≡ None
-seen_end end body all to top rest le s = s.same ∙ none s.ms s.path where
-  none : (ms : List (List ℕ)) → Path ms rest to → repeat_at end s.seen ms rest ≡ None
-  none [] p = refl
-  none (m ∷ ms) p = absurd (omega (arith, p.0, le))
+-- ---- names without a repeat are distinct
 
-pub seen_found : (end : ℕ) (body : List ℕ) (all : List (List ℕ)) (to top rest : List ℕ) → length to < length rest → (s : Seen end body all to top rest) → has (first_name rest) s.seen ≡ true → repeat_at end [] all body ≡ Some (place end (drop 1 rest))
-seen_found end body all to top rest lt s h = s.same ∙ found s.ms s.path where
-  found : (ms : List (List ℕ)) → Path ms rest to → repeat_at end s.seen ms rest ≡ Some (place end (drop 1 rest))
-  found [] p = absurd (omega (arith, lt, ap length p))
-  found (m ∷ ms) p = let e : has m s.seen ≡ true = ap (λ (x : List ℕ). has x s.seen) (sym p.1) ∙ h in rw e refl
+has_first : (n : List ℕ) (seen ms : List (List ℕ)) → has n (seen ++ n ∷ ms) ≡ true
+has_first n [] ms = let e : bytes_eq n n ≡ true = (bytes_eq-Decides n n).1 refl in rw e refl
+has_first n (x ∷ seen) ms = go (bytes_eq x n) (has_first n seen ms) where
+  go : (b : Bool) → has n (seen ++ n ∷ ms) ≡ true → cond b true (has n (seen ++ n ∷ ms)) ≡ true
+  go true h = refl
+  go false h = h
 
-pub seen_on : (end : ℕ) (body : List ℕ) (all : List (List ℕ)) (to top rest above after : List ℕ) → length to < length rest → length after < length rest → passed rest ≡ after → (s : Seen end body all to top rest) → has (first_name rest) s.seen ≡ false
-    → Tops above (s.seen ++ first_name rest ∷ []) → Seen end body all to above after
-seen_on end body all to top rest above after lt less next s h tops = go s.ms s.path s.same where
-  go : (ms : List (List ℕ)) → Path ms rest to → repeat_at end [] all body ≡ repeat_at end s.seen ms rest → Seen end body all to above after
-  go [] p same = absurd (omega (arith, lt, ap length p))
-  go (m ∷ ms) p same =
-      let e : has m s.seen ≡ false = ap (λ (x : List ℕ). has x s.seen) (sym p.1) ∙ h in
-      record {
-        seen = s.seen ++ m ∷ [];
-        ms = ms;
-        so_far = path_push s.seen m body rest after s.so_far less p.1 next;
-        path = subst (λ (r : List ℕ). Path ms r to) next p.2;
-        tops = subst (λ (x : List ℕ). Tops above (s.seen ++ x ∷ [])) p.1 tops;
-        same = subst (λ (r : List ℕ). repeat_at end [] all body ≡ repeat_at end (s.seen ++ m ∷ []) ms r) next (same ∙ ap (λ (b : Bool). cond b (Some (place end (drop 1 rest))) (repeat_at end (s.seen ++ m ∷ []) ms (passed rest))) e);
-      }
+has_more : (n : List ℕ) (seen ms : List (List ℕ)) → has n seen ≡ true → has n (seen ++ ms) ≡ true
+has_more n [] ms h = absurd cc
+has_more n (x ∷ seen) ms h = go (bytes_eq x n) h (λ k. has_more n seen ms k) where
+  go : (b : Bool) → cond b true (has n seen) ≡ true → (has n seen ≡ true → has n (seen ++ ms) ≡ true) → cond b true (has n (seen ++ ms)) ≡ true
+  go true h more = refl
+  go false h more = more h
 
-pub as_fault : {A : Type 0} (total : Result A BsonFault) (o : Option ℕ) (f g : BsonFault) → total ≡ answer o (Err f) → fault_of o f ≡ g → void total ≡ Err g
-as_fault total (Some q) f g e k = ap void e ∙ ap (λ (x : BsonFault). Err x) k
-as_fault total None f g e k = ap void e ∙ ap (λ (x : BsonFault). Err x) k
+no_repeat : (end : ℕ) (seen : List (List ℕ)) (m : List ℕ) (ms : List (List ℕ)) (from : List ℕ) → repeat_at end seen (m ∷ ms) from ≡ None → (has m seen ≡ false) × (repeat_at end (seen ++ m ∷ []) ms (passed from) ≡ None)
+no_repeat end seen m ms from e = go (has m seen) e where
+  go : (b : Bool) → cond b (Some (place end (drop 1 from))) (repeat_at end (seen ++ m ∷ []) ms (passed from)) ≡ None → (b ≡ false) × (repeat_at end (seen ++ m ∷ []) ms (passed from) ≡ None)
+  go true e = absurd cc
+  go false e = (refl, e)
 
-pub as_end : {A : Type 0} (total : Result A BsonFault) (x : A) (o r : Option ℕ) → total ≡ answer o (Ok x) → o ≡ r → r ≡ None → void total ≡ Ok tt
-as_end total x o r e k n = ap void (e ∙ ap (λ (p : Option ℕ). answer p (Ok x)) (k ∙ n))
+absent : (end : ℕ) (n : List ℕ) (seen ns : List (List ℕ)) (from : List ℕ) → has n seen ≡ true → repeat_at end seen ns from ≡ None → IsAbsent n ns
+absent end n seen [] from h e = tt
+absent end n seen (m ∷ ms) from h e =
+    let r = no_repeat end seen m ms from e in
+    ((λ p. let q : has m seen ≡ true = ap (λ (x : List ℕ). has x seen) (sym p) ∙ h in let f = r.0 in absurd cc), absent end n (seen ++ m ∷ []) ms (passed from) (has_more n seen (m ∷ []) h) r.1)
 
-pub as_repeat : {A : Type 0} (total : Result A BsonFault) (x : A) (o r : Option ℕ) (q : ℕ) → total ≡ answer o (Ok x) → o ≡ r → r ≡ Some q → void total ≡ fails kinds.Repeat q
-as_repeat total x o r q e k n = ap void (e ∙ ap (λ (p : Option ℕ). answer p (Ok x)) (k ∙ n))
+distinct_from : (end : ℕ) (seen ns : List (List ℕ)) (from : List ℕ) → repeat_at end seen ns from ≡ None → AreDistinct ns
+distinct_from end seen [] from e = tt
+distinct_from end seen (n ∷ ns) from e =
+    let r = no_repeat end seen n ns from e in
+    (absent end n (seen ++ n ∷ []) ns (passed from) (has_first n seen []) r.1, distinct_from end (seen ++ n ∷ []) ns (passed from) r.1)
+
+pub none_twice : (end : ℕ) (ns : List (List ℕ)) (from : List ℕ) → repeat_at end [] ns from ≡ None → AreDistinct ns
+none_twice end ns from e = distinct_from end [] ns from e

@@ -1,6 +1,6 @@
 -- Walking elements without their values, and the names of those that were walked.
-use Rattle.std.proofs.Common.{Ordering, Less, Equal, Greater, ◌≡◌, ℕ, zero, suc, ◌+◌, ◌-◌, ◌<◌, ◌≤◌, Bool, true, false, cond, List, [], ◌∷◌, ◌++◌, length, take, drop, Result, Ok, Err, refl, sym, ap, subst, ◌∙◌, arith}
-use Rattle.std.specs.Prelude.{Option, Some, None, if◌then◌else◌, ◌==◌}
+use Rattle.std.proofs.Common.{Ordering, Less, Equal, Greater, ◌≡◌, ℕ, ◌+◌, ◌<◌, ◌≤◌, Bool, true, false, cond, List, [], ◌∷◌, ◌++◌, length, Result, Ok, Err, refl, sym, ap, subst, ◌∙◌, arith}
+use Rattle.std.specs.Prelude.{Some}
 use Rattle.std.specs.Cmp.Lexicographic.{slice_cmp}
 use Rattle.std.specs.Ordering.{nat_cmp, is_lt, ordering_reverse}
 use Rattle.std.proofs.lemmas.Cmp.{nat_list_cmp_total}
@@ -11,10 +11,10 @@ use Rattle.bson_check.specs.declared.fault.BsonFault.{BsonFault}
 use Rattle.bson_check.specs.declared.fault.BsonKind.TheVariants as kinds
 use Rattle.bson_check.specs.declared.fault.DecodeFault.TheVariants as errors
 use Rattle.bson_value.specs.declared.value.Value.{Value}
-use Rattle.containers.specs.Entries.{names_of, place_of}
-use Rattle.bson_check.specs.Reading.{◌>>=◌, Taken, Frame, Reader, place, fails, closed, rests, void, split_zero, name_at, named, unless_there, is_type, field_at, item_at, fields_at, items_at}
-use Rattle.bson_check.specs.Passing.{before, upto_zero, first_name, passed, Path, has, Tops, is_above}
-use Rattle.bson_check.proofs.Loop.{FieldsLeft, ItemsLeft, field_goes_on, field_ends, fields_done, item_goes_on, item_ends, items_done}
+use Rattle.containers.specs.Entries.{names_of}
+use Rattle.bson_check.specs.Reading.{◌>>=◌, Taken, Reader, fails, rests, void, named, unless_there, item_at}
+use Rattle.bson_check.specs.Passing.{first_name, passed, Path, has, Tops, is_above}
+use Rattle.bson_check.proofs.Loop.{ItemsLeft, item_goes_on, item_ends, items_done}
 
 -- ---- names on the way
 

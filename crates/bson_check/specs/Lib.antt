@@ -1,2 +1,4 @@
 pub mod Reading
 pub mod Passing
+pub mod Spells
+pub mod Faults

@@ -148,7 +148,7 @@ total_at levels end bytes =
     if nat_lt (length bytes) 4 then fails kinds.Length (place end bytes)
     else (if nat_lt (number bytes) 14 || nat_lt (length bytes) (number bytes) then fails kinds.Length (place end bytes)
     else (raw_at (place end bytes) (take (number bytes - 4) (drop 4 bytes)) >>= λ code.
-      scope_at levels (place end bytes) (place end bytes + (number bytes - 1)) (drop (number bytes) bytes) code.0 code.1))
+    scope_at levels (place end bytes) (place end bytes + (number bytes - 1)) (drop (number bytes) bytes) code.0 code.1))
 
 -- the byte after the elements is looked at behind them
 abbrev pub closed : {A : Type 0} → Frame → A → Taken A

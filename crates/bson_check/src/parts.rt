@@ -2,7 +2,7 @@
 ghost use Rattle.std.specs.Prelude.{◌≡◌, ◌+◌, ◌-◌, ◌*◌, ◌<◌, ◌≤◌, [], ◌∷◌, ◌++◌, length, slice_index, ◌^◌, List, ℕ, ◌==◌, IfSome, IfOk, Contains, MatchOption, OnOk, OnErr, true, false, take, drop, Ok};
 ghost use Rattle.std.specs.Str.{is_utf8};
 ghost use Rattle.std.specs.List.{position_from};
-ghost use Rattle.bson_check.specs.Passing.{count_of, past_zero, upto_zero};
+ghost use Rattle.bson_check.specs.Passing.{count_of, past_zero, upto_zero, head_at};
 ghost use Rattle.bson_check.specs.Reading.{Reads, number, int_at, bool_at, text_at, frame_at, Frame, name_at, is_type, run_at, raw_at, binary_at, cut_at, regex_at, pointer_at, scope_at, total_at, Scoped};
 
 use crate::fault::{BsonFault, BsonKind};
@@ -328,4 +328,24 @@ pub fn is_type(tag: u8) -> bool
     ensures { result ≡ is_type tag }
 {
     tag != 0 && (tag < 20 || tag == 255 || tag == 127)
+}
+
+/// The type byte and the name of an element.
+pub fn head(end: usize, tag: u8, bytes: &[u8]) -> Result<(&str, &[u8]), BsonFault>
+    requires { length bytes.now < end }
+    ensures gives { Reads (λ x. (x.0.now, x.1.now)) result (head_at end tag bytes.now) }
+    ensures fits { IfOk result (λ x. length x.1.now ≤ length bytes.now) }
+    ensures no_zero { IfOk result (λ x. Contains x.0.now 0 → ⊥) }
+    ensures name { IfOk result (λ x. x.0.now ≡ upto_zero bytes.now) }
+    ensures after { IfOk result (λ x. x.1.now ≡ past_zero bytes.now) }
+{
+    let at = end - bytes.len();
+    if !is_type(tag) {
+        return Err(fault(BsonKind::Tag, at - 1));
+    }
+    let (name, rest) = name(end, bytes)?;
+    match as_text(name) {
+        None => Err(fault(BsonKind::Text, at)),
+        Some(text) => Ok((text, rest)),
+    }
 }

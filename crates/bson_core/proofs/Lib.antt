@@ -1,2 +1,3 @@
-pub mod Again
 pub mod Spelled
+pub mod Held
+pub mod Grammar

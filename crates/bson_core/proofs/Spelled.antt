@@ -3,7 +3,7 @@ use Rattle.std.proofs.Common.{◌≡◌, ℕ, suc, ◌+◌, ◌<◌, List, [], �
 use Rattle.std.specs.Fmt.{decimal}
 use Rattle.std.proofs.lemmas.List.{take_more, map-append, append-nil, length-map, length-take}
 use Rattle.bson_value.specs.declared.value.Value.{Value}
-use Rattle.bson_core.specs.Spelling.{Typed, element, numbered, spelling, items_of}
+use Rattle.bson_value.specs.Spelling.{Typed, element, numbered, spelling, items_of}
 
 numbered-push : (i : ℕ) (xs : List Typed) (y : Typed) → numbered i (xs ++ y ∷ []) ≡ numbered i xs ++ element (decimal (i + length xs), y)
 numbered-push i [] y = rw (add-zero, append-nil) refl

@@ -1,2 +1,1 @@
-pub mod Spelling
-pub mod Proper
+pub mod Kept

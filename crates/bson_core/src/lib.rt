@@ -4,7 +4,10 @@
 mod reading;
 mod writing;
 
-pub use bson_check::{BsonFault, BsonKind, DecodeFault, check};
-pub use bson_value::{Bytes, CText, Doc, Fields, List, Text, Ts, Value};
+pub use bson_check::{BsonFault, BsonKind, DecodeFault, MAX_DOCUMENT_BYTES, check, doc_len};
+pub use bson_value::{Bytes, CText, Doc, Fields, List, NsName, Text, Ts, Value, same_up_to_order};
 pub use reading::decode;
 pub use writing::encode;
+
+#[cfg(test)]
+mod tests;

@@ -1,17 +1,19 @@
 //! Reading a document from its bytes.
-ghost use Rattle.std.specs.Prelude.{◌≡◌, ◌+◌, ◌-◌, ◌*◌, ◌<◌, ◌≤◌, [], ◌∷◌, ◌++◌, length, slice_index, ◌^◌, List, ℕ, ◌==◌, IfSome, IfOk, Contains, MatchOption, OnOk, OnErr, true, false, take, drop, Ok};
+ghost use Rattle.std.specs.Prelude.{◌≡◌, ◌+◌, ◌-◌, ◌*◌, ◌<◌, ◌≤◌, [], ◌∷◌, ◌++◌, length, slice_index, ◌^◌, List, ℕ, ◌==◌, IfSome, IfOk, IfErr, Contains, MatchOption, MatchResult, OnOk, OnErr, true, false, take, drop, Ok};
 ghost use Rattle.std.specs.Str.{is_utf8};
 ghost use Rattle.std.specs.List.{position_from};
-ghost use Rattle.containers.specs.Entries.{IsAbsent, names_of};
-ghost use Rattle.bson_core.specs.Proper.{IsDocument};
-ghost use Rattle.bson_core.specs.Spelling.{document_text};
-ghost use Rattle.bson_check.specs.Passing.{count_of, past_zero, upto_zero};
+ghost use Rattle.bson_check.specs.declared.fault.DecodeFault.TheVariants.{NoMemory};
+ghost use Rattle.bson_check.specs.Spells.{SpellsWithin};
+ghost use Rattle.bson_check.specs.Faults.{IsFault, first_fault};
+ghost use Rattle.bson_value.specs.declared.value.Value.{Value as Datum};
+ghost use Rattle.bson_check.specs.Passing.{count_of, jump};
 ghost use Rattle.bson_check.specs.Reading.{Gives, Reads, number, int_at, bool_at, text_at, frame_at, Frame, name_at, named, is_type, field_at, item_at, fields_at, items_at, value_at, document_at, array_at, scoped_at, document_of, run_at, long_of, stamp_of, raw_at, binary_at, cut_at, regex_at, pointer_at, scope_at, total_at, Scoped};
 
 use bson_check::parts::{
-    as_text, binary, boolean, frame, int, is_type, name, number_of, pointer, regex, run, text,
-    total,
+    binary, boolean, frame, head, int, is_type, name, number_of, pointer, regex, run, text, total,
 };
+use bson_check::passing::after;
+use bson_check::repeats::{first_fault, first_repeat};
 use bson_check::{BsonFault, BsonKind, DecodeFault};
 use bson_value::{Bytes, CText, Doc, Fields, List, Text, Ts, Value};
 use std::alloc::Global;
@@ -66,22 +68,7 @@ fn stamp(run: &[u8]) -> Ts
     }
 }
 
-#[tactic(auto, unfolding(bson_check::specs::Reading::named))]
-fn known_name(alloc: Global, at: usize, done: &Doc, name: &[u8]) -> Result<CText, DecodeFault>
-    requires { Contains name.now 0 → ⊥ }
-    ensures gives { Gives (λ x. x) result (named at done.now name.now) }
-    ensures new { IfOk result (λ x. IsAbsent x (names_of done.now)) }
-{
-    match as_text(name) {
-        None => Err(bad(BsonKind::Text, at)),
-        Some(text) => match done.place(text) {
-            Some(_) => Err(bad(BsonKind::Repeat, at)),
-            None => Ok(CText::of_text(alloc, text)?),
-        },
-    }
-}
-
-#[tactic(auto, unfolding(bson_check::specs::Reading::value_with))]
+#[tactic(auto, unfolding(bson_check::specs::Reading::value_with, bson_check::specs::Passing::jump))]
 #[cycle(decode)]
 fn value(
     alloc: Global,
@@ -93,6 +80,7 @@ fn value(
     requires { length bytes.now ≤ end }
     ensures gives { Gives (λ x. (x.0, x.1.now)) result (value_at levels tag end bytes.now) }
     ensures fits { IfOk result (λ x. length x.1.now ≤ length bytes.now) }
+    ensures jumps { IfOk result (λ x. x.1.now ≡ jump tag bytes.now) }
 {
     match tag {
         1 => {
@@ -180,6 +168,7 @@ fn scoped(
     requires { length bytes.now ≤ end }
     ensures gives { Gives (λ x. ((x.0, x.1), x.2.now)) result (scoped_at levels end bytes.now) }
     ensures fits { IfOk result (λ x. length x.2.now ≤ length bytes.now) }
+    ensures jumps { IfOk result (λ x. x.2.now ≡ drop (count_of bytes.now) bytes.now) }
 {
     let open = total(levels, end, bytes)?;
     let doc = fields(alloc, levels - 1, open.scope.stop, open.scope.body)?;
@@ -201,6 +190,7 @@ fn document(
     requires { length bytes.now ≤ end }
     ensures gives { Gives (λ x. (x.0, x.1.now)) result (document_at levels end bytes.now) }
     ensures fits { IfOk result (λ x. length x.1.now ≤ length bytes.now) }
+    ensures jumps { IfOk result (λ x. x.1.now ≡ drop (count_of bytes.now) bytes.now) }
 {
     let open = frame(levels, end, bytes)?;
     let doc = fields(alloc, levels - 1, open.stop, open.body)?;
@@ -221,6 +211,7 @@ fn array(
     requires { length bytes.now ≤ end }
     ensures gives { Gives (λ x. (x.0, x.1.now)) result (array_at levels end bytes.now) }
     ensures fits { IfOk result (λ x. length x.1.now ≤ length bytes.now) }
+    ensures jumps { IfOk result (λ x. x.1.now ≡ drop (count_of bytes.now) bytes.now) }
 {
     let open = frame(levels, end, bytes)?;
     let items = items(alloc, levels - 1, open.stop, open.body)?;
@@ -228,31 +219,6 @@ fn array(
         return Err(bad(BsonKind::Length, open.stop));
     }
     Ok((items, open.after))
-}
-
-#[tactic(auto, unfolding(bson_check::specs::Reading::field_at))]
-#[cycle(decode)]
-fn field<'a>(
-    alloc: Global,
-    levels: usize,
-    end: usize,
-    done: &Doc,
-    tag: u8,
-    bytes: &'a [u8],
-) -> Result<(CText, Value, &'a [u8]), DecodeFault>
-    requires { length bytes.now < end }
-    ensures gives { Gives (λ x. ((x.0, x.1), x.2.now)) result (field_at (value_at levels) end done.now tag bytes.now) }
-    ensures fits { IfOk result (λ x. length x.2.now ≤ length bytes.now) }
-    ensures new { IfOk result (λ x. IsAbsent x.0 (names_of done.now)) }
-{
-    let at = end - bytes.len();
-    if !is_type(tag) {
-        return Err(bad(BsonKind::Tag, at - 1));
-    }
-    let (name, rest) = name(end, bytes)?;
-    let known = known_name(alloc, at, done, name)?;
-    let (value, rest) = value(alloc, levels, tag, end, rest)?;
-    Ok((known, value, rest))
 }
 
 #[tactic(auto, unfolding(bson_check::specs::Reading::item_at))]
@@ -280,14 +246,28 @@ fn fields(alloc: Global, levels: usize, end: usize, body: &[u8]) -> Result<Doc, 
     requires { length body.now ≤ end }
     ensures { Gives (λ d. d) result (fields_at (value_at levels) (length body.now) end [] body.now) }
 {
-    let mut doc = Doc::new(alloc);
+    let mut entries = Vec::new(alloc);
     let mut rest = body;
-    'fields: while let Some((tag, behind)) = rest.split_first() {
-        let (name, value, after) = field(alloc, levels, end, &doc, *tag, behind)?;
-        doc.add(name, value)?;
-        rest = after;
+    'fields: while let Some((tag, bytes)) = rest.split_first() {
+        match head(end, *tag, bytes) {
+            Err(f) => return Err(DecodeFault::Bad(first_fault(end, body, rest.len(), f))),
+            Ok((name, behind)) => match value(alloc, levels, *tag, end, behind) {
+                Err(DecodeFault::NoMemory) => return Err(DecodeFault::NoMemory),
+                Err(DecodeFault::Bad(f)) => {
+                    let left = after(*tag, behind).len();
+                    return Err(DecodeFault::Bad(first_fault(end, body, left, f)));
+                }
+                Ok((value, next)) => {
+                    entries.push((CText::of_text(alloc, name)?, value))?;
+                    rest = next;
+                }
+            },
+        }
     }
-    Ok(doc)
+    match first_repeat(end, body, 0) {
+        Some(at) => Err(bad(BsonKind::Repeat, at)),
+        None => Ok(Fields::of_distinct(entries)),
+    }
 }
 
 #[cycle(decode)]
@@ -330,11 +310,13 @@ fn whole(alloc: Global, bytes: &[u8], max: usize, depth: usize) -> Result<Doc, D
     Ok(doc)
 }
 
-/// The document that the bytes spell, all of the bytes.
+/// The document that the bytes spell, all of the bytes, of at most `max` bytes and `depth` levels.
+/// Else the first fault from the left, the one that `check` answers.
 pub fn decode(alloc: Global, bytes: &[u8], max: usize, depth: usize) -> Result<Doc, DecodeFault>
+    ensures found { IfOk result (λ fs. SpellsWithin max depth bytes.now fs) }
     // What is spelled so is read, unless memory runs out.
-    ensures only { (fs : List (List ℕ × Value)) → IsDocument depth fs → length bytes.now < 2 ^ 31 → length bytes.now ≤ max → bytes.now ≡ document_text fs → Gives (λ d. d) result (Ok fs) }
-    // Which document or fault it is.
+    ensures only { (fs : List (List ℕ × Datum)) → SpellsWithin max depth bytes.now fs → MatchResult result (λ d. d ≡ fs) (λ e. e ≡ NoMemory) }
+    ensures fault { IfErr result (λ e. IsFault e (first_fault max depth bytes.now)) }
     ensures exact { Gives (λ d. d) result (document_of max depth bytes.now) }
 {
     whole(alloc, bytes, max, depth)

@@ -1,15 +1,15 @@
 -- Two values are equal up to the order of fields exactly where the same stands at each place.
-use Rattle.std.proofs.Common.{◌≡◌, ◌≢◌, ℕ, zero, suc, List, [], ◌∷◌, map, Bool, true, false, cond, refl, sym, ap, ◌∙◌, subst, Option, Some, None, inl, inr}
-use Rattle.std.specs.Prelude.{option_map, ◌⊎◌}
+use Rattle.std.proofs.Common.{◌≡◌, ℕ, zero, suc, List, [], ◌∷◌, map, Bool, true, false, cond, refl, sym, ap, ◌∙◌, subst, Option, Some, None}
+use Rattle.std.specs.Prelude.{option_map}
 use Rattle.std.specs.Str.{bytes_eq}
 use Rattle.std.specs.Ordering.{nat_cmp, eq_by_cmp}
 use Rattle.std.specs.declared.cmp.Ordering.{Ordering}
 use Rattle.std.specs.Cmp.Lexicographic.{slice_cmp, nat_list_cmp_total, nat_list_eq_equiv, texts_ties}
-use Rattle.std.specs.FinMap.{FinMap, find, get, entries, from_entries, get-entries, get-from_entries, same_map, nat_cmp-IsAntisymmetric, slice_cmp-IsAntisymmetric}
-use Rattle.bson_value.specs.declared.value.Value.{Value, Value-F, out-Value, roll-Value, out-roll-Value, roll-out-Value, fold-Value, fold_out-Value, fold-roll-Value, map-Value, ind-Value}
+use Rattle.std.specs.FinMap.{find, entries, from_entries, get-entries, get-from_entries, same_map, nat_cmp-IsAntisymmetric, slice_cmp-IsAntisymmetric}
+use Rattle.bson_value.specs.declared.value.Value.{Value, Value-F, out-Value, roll-Value, out-roll-Value, fold_out-Value, fold-roll-Value, map-Value, ind-Value}
 use Rattle.containers.specs.Entries.{lookup}
 use Rattle.bson_value.specs.Digits.{index_of, digits}
-use Rattle.bson_value.specs.Place.{Place, Shape, a_leaf, an_array, an_object, a_code, shape_in, shape, nth, at_index, child_in, child, look}
+use Rattle.bson_value.specs.Place.{Place, a_leaf, an_object, a_code, shape_in, shape, nth, at_index, child_in, child, look}
 use Rattle.bson_value.specs.Alike.{by_name, ordered_step, ordered, ◌~◌}
 use Rattle.bson_value.proofs.Digits.{index_of-digits}
 use Rattle.bson_value.proofs.Child.{array_in}
@@ -40,7 +40,7 @@ module _ {A : Type 0} where
 abbrev on_value : {X Y : Type 0} → (X → Y) → List ℕ × X → List ℕ × Y
 on_value h e = (e.0, h e.1)
 
-lookup-map : {X Y : Type 0} (h : X → Y) (k : List ℕ) (fs : List (List ℕ × X)) → lookup k (map (on_value h) fs) ≡ option_map h (lookup k fs)
+pub lookup-map : {X Y : Type 0} (h : X → Y) (k : List ℕ) (fs : List (List ℕ × X)) → lookup k (map (on_value h) fs) ≡ option_map h (lookup k fs)
 lookup-map h k [] = refl
 lookup-map {X} {Y} h k (e ∷ fs) = by (bytes_eq e.0 k) _ _ (lookup-map h k fs)
   where
@@ -136,19 +136,19 @@ same_elements (v ∷ vs) (w ∷ ws) h =
     λ i. d i ∷ same_elements vs ws (λ n. h (suc n)) i
 
 -- the level of a value of a known kind
-object_in : (f : Value-F Value) → an_object ≡ shape_in f → (fs : List (List ℕ × Value)) × (f ≡ Value-F.Object fs)
+pub object_in : (f : Value-F Value) → an_object ≡ shape_in f → (fs : List (List ℕ × Value)) × (f ≡ Value-F.Object fs)
 object_in (Value-F.Object fs) e = (fs, refl)
 object_in (Value-F.Array vs) e = cc
 object_in (Value-F.ScopedCode t fs) e = cc
 object_in _ e = cc
 
-code_in : (t : List ℕ) (f : Value-F Value) → a_code t ≡ shape_in f → (fs : List (List ℕ × Value)) × (f ≡ Value-F.ScopedCode t fs)
+pub code_in : (t : List ℕ) (f : Value-F Value) → a_code t ≡ shape_in f → (fs : List (List ℕ × Value)) × (f ≡ Value-F.ScopedCode t fs)
 code_in t (Value-F.ScopedCode u fs) e = let s : u ≡ t = cc in (fs, ap (λ (x : List ℕ). Value-F.ScopedCode x fs) s)
 code_in t (Value-F.Array vs) e = cc
 code_in t (Value-F.Object fs) e = cc
 code_in t _ e = cc
 
-leaf_in : (g f : Value-F Value) → a_leaf g ≡ shape_in f → f ≡ g
+pub leaf_in : (g f : Value-F Value) → a_leaf g ≡ shape_in f → f ≡ g
 leaf_in g (Value-F.Array vs) e = cc
 leaf_in g (Value-F.Object fs) e = cc
 leaf_in g (Value-F.ScopedCode t fs) e = cc

@@ -1,14 +1,12 @@
 -- What stands under a name after a change just below a value.
-use Rattle.std.proofs.Common.{◌≡◌, ◌≢◌, ℕ, zero, suc, ◌<◌, ◌≤◌, List, [], ◌∷◌, Bool, true, false, cond, length, refl, sym, ap, ◌∙◌, subst, arith, Option, Some, None, inl, inr}
-use Rattle.std.specs.Prelude.{if◌then◌else◌, nat_lt, nat_le, ◌⊎◌}
+use Rattle.std.proofs.Common.{◌≡◌, ◌≢◌, ℕ, zero, suc, ◌<◌, ◌≤◌, List, [], ◌∷◌, Bool, true, false, length, refl, sym, ap, ◌∙◌, arith, Option, Some, None}
+use Rattle.std.specs.Prelude.{nat_lt}
 use Rattle.std.specs.Str.{bytes_eq}
 use Rattle.std.proofs.lemmas.Slice.Eq.{bytes_eq-Decides}
-use Rattle.std.proofs.lemmas.Bool.{cases_Bool}
 use Rattle.std.proofs.lemmas.Grind.{common_steps}
-use Rattle.bson_value.specs.declared.value.Value.{Value, Value-F, out-Value, roll-Value, out-roll-Value, roll-out-Value, Null}
-use Rattle.containers.specs.Entries.{lookup, put as put_field, without}
+use Rattle.bson_value.specs.declared.value.Value.{Value, Value-F, out-Value, roll-Value, out-roll-Value, roll-out-Value}
 use Rattle.bson_value.specs.Digits.{index_of}
-use Rattle.bson_value.specs.Place.{Shape, a_leaf, an_array, an_object, a_code, shape_in, shape, nth, at_index, child_in, child, look, put_item, put_index, put_in, put, blank_item, blank_index, del_in, del, sized}
+use Rattle.bson_value.specs.Place.{Shape, an_array, an_object, shape_in, shape, nth, at_index, child_in, child, put_item, put_index, put_in, put, del_in, del, sized}
 use Rattle.bson_value.proofs.Digits.{index_of-one}
 use Rattle.containers.proofs.Entries.{lookup-put, lookup-put_ne, lookup-without, lookup-without_ne, put_same as put_field_same, without_same}
 

@@ -1,10 +1,13 @@
 -- An index and its name are one.
-use Rattle.std.proofs.Common.{◌≡◌, ◌≢◌, ℕ, zero, suc, ◌+◌, ◌-◌, ◌*◌, ◌/◌, ◌%◌, ◌<◌, ◌≤◌, List, [], ◌∷◌, ◌++◌, Bool, true, false, cond, refl, sym, ap, ◌∙◌, subst, arith, Option, Some, None, inl, inr}
-use Rattle.std.specs.Prelude.{if◌then◌else◌, nat_lt, ◌⊎◌}
+use Rattle.std.proofs.Common.{◌≡◌, ℕ, zero, suc, ◌+◌, ◌-◌, ◌*◌, ◌/◌, ◌%◌, ◌<◌, ◌≤◌, List, [], ◌∷◌, ◌++◌, true, false, refl, sym, ap, ◌∙◌, arith, Some, None, inl, inr}
+use Rattle.std.specs.Prelude.{nat_lt}
 use Rattle.std.specs.Str.{bytes_eq}
 use Rattle.std.proofs.lemmas.Slice.Eq.{bytes_eq-Decides}
 use Rattle.std.proofs.lemmas.Bool.{cases_Bool}
 use Rattle.std.proofs.lemmas.Grind.{common_steps}
+use Rattle.std.proofs.Common.{◌^◌, length, length-append}
+use Rattle.std.specs.Fmt.{decimal}
+use Rattle.std.proofs.lemmas.Fmt.{AppendsLastDigit, decimal_from_appends, length-decimal-le_succ}
 use Rattle.bson_value.specs.Digits.{digits_in, digits, read_on, index_of}
 
 read_on-append : (n : ℕ) (ds : List ℕ) (c : ℕ) → read_on n (ds ++ (c ∷ [])) ≡ read_on n ds * 10 + (c - 48)
@@ -71,3 +74,25 @@ digits-step n l = unrolled n n l ∙ ap (λ (ds : List ℕ). ds ++ ((48 + n % 10
 pub digits-one : (n : ℕ) → n < 10 → digits n ≡ (48 + n) ∷ []
 unfolding digits digits_in
 digits-one n l = let e : nat_lt n 10 ≡ true = grind (arith, common_steps) in rw e refl
+
+-- ---- the digits as std writes them
+
+appends_last_digit : AppendsLastDigit digits_in
+unfolding digits_in
+appends_last_digit = record {
+  one = λ k n l. let e : nat_lt n 10 ≡ true = grind (arith, common_steps) in rw e refl;
+  more = λ k n l. unrolled k n l;
+}
+
+pub digits-is_decimal : (n : ℕ) → n < 2 ^ 64 → digits n ≡ decimal n
+unfolding digits
+digits-is_decimal n l = decimal_from_appends digits_in appends_last_digit (suc n) n l (omega (arith, length-decimal-le_succ n l))
+
+pub length-decimal_one : (n : ℕ) → n < 10 → 1 ≡ length (decimal n)
+length-decimal_one n l = sym (ap length (digits-one n l)) ∙ ap length (digits-is_decimal n (omega arith))
+
+pub length-decimal_step : (n : ℕ) → 10 ≤ n → n < 2 ^ 64 → length (decimal (n / 10)) + 1 ≡ length (decimal n)
+length-decimal_step n low l =
+    let front = ap length (digits-is_decimal (n / 10) (omega arith)) in
+    let whole = ap length (digits-step n low) ∙ length-append (digits (n / 10)) ((48 + n % 10) ∷ []) in
+    omega (arith, front, whole, ap length (digits-is_decimal n l))

@@ -1,6 +1,6 @@
 -- Names at every level, from those of one level and of what it holds.
 use Rattle.std.proofs.Common.{◌≡◌, ℕ, suc, zero, ◌+◌, ◌<◌, ◌≤◌, List, [], ◌∷◌, length, take, get_or, map, refl, sym, ap, ◌∙◌, subst, arith}
-use Rattle.bson_value.specs.declared.value.Value.{Value, Value-F, out-Value, roll-Value, roll-out-Value, map-Value, every-Value, every_made-Value}
+use Rattle.bson_value.specs.declared.value.Value.{Value, Value-F, out-Value, roll-Value, roll-out-Value, every_made-Value}
 use Rattle.bson_value.specs.declared.value.Value.TheVariants.{Object, Array, ScopedCode, rolls-Object, rolls-Array, rolls-ScopedCode}
 use Rattle.containers.specs.Entries.{AreDistinct, names_of}
 use Rattle.bson_value.specs.Distinct.{DistinctIn, AllDistinct, ItemsDistinct, FieldsDistinct}

@@ -1,5 +1,5 @@
 -- What stands at each place of a value. A place is a list of names, where an index goes by its digits.
-use Rattle.std.specs.Prelude.{ℕ, zero, suc, ◌≡◌, ◌<◌, List, [], ◌∷◌, Bool, true, false, if◌then◌else◌, Option, Some, None}
+use Rattle.std.specs.Prelude.{ℕ, zero, suc, ◌≡◌, List, [], ◌∷◌, Option, Some, None}
 use Rattle.bson_value.specs.declared.value.Value.{Value, Value-F, out-Value, roll-Value, Null}
 use Rattle.containers.specs.Entries.{lookup, put as put_field, without}
 use Rattle.bson_value.specs.Digits.{index_of}
@@ -114,3 +114,7 @@ put_under k (j ∷ q) a v = into (put_under j q a) v k (child v k)
 unfoldable pub put_at : Place → Value → Value → Value
 put_at [] a v = v
 put_at (k ∷ q) a v = put_under k q a v
+
+-- at every place of the two values the same stands
+abbrev pub LooksTheSame : Value → Value → Type 0
+LooksTheSame a b = (q : Place) → look (Some a) q ≡ look (Some b) q

@@ -1,8 +1,9 @@
 //! Copies of values.
 ghost use Rattle.std.specs.Prelude.{◌≡◌, IfOk};
 
-use containers::{CText, Fields, List};
-use crate::value::Value;
+use crate::fields::Fields;
+use crate::value::{Doc, Value};
+use containers::{CText, List};
 use std::alloc::{AllocError, Global};
 
 impl Value {
@@ -14,7 +15,7 @@ impl Value {
         match self {
             Value::Double(d) => Ok(Value::Double(*d)),
             Value::Str(text) => Ok(Value::Str(text.copy(alloc)?)),
-            Value::Object(doc) => Ok(Value::Object(copy_fields(alloc, doc)?)),
+            Value::Object(doc) => Ok(Value::Object(doc.copy(alloc)?)),
             Value::Array(items) => Ok(Value::Array(copy_items(alloc, items.as_slice())?)),
             Value::Binary { subtype, bytes } => Ok(Value::Binary {
                 subtype: *subtype,
@@ -37,7 +38,7 @@ impl Value {
             Value::Symbol(text) => Ok(Value::Symbol(text.copy(alloc)?)),
             Value::ScopedCode { code, scope } => Ok(Value::ScopedCode {
                 code: code.copy(alloc)?,
-                scope: copy_fields(alloc, scope)?,
+                scope: scope.copy(alloc)?,
             }),
             Value::Int(n) => Ok(Value::Int(*n)),
             Value::Stamp(ts) => Ok(Value::Stamp(*ts)),
@@ -60,15 +61,18 @@ fn copy_items(alloc: Global, items: &[Value]) -> Result<List<Value>, AllocError>
     Ok(list)
 }
 
-#[cycle(copy)]
-fn copy_fields(alloc: Global, doc: &Fields<Value>) -> Result<Fields<Value>, AllocError>
-    ensures { IfOk result (λ copy. copy ≡ doc.now) }
-{
-    let mut entries = Vec::new(alloc);
-    for entry in doc.entries() {
-        entries.push(copy_entry(alloc, entry)?)?;
+impl Fields<Value> {
+    /// An equal document.
+    #[cycle(copy)]
+    pub fn copy(&self, alloc: Global) -> Result<Doc, AllocError>
+        ensures { IfOk result (λ doc. doc ≡ self.now) }
+    {
+        let mut entries = Vec::new(alloc);
+        for entry in self.entries() {
+            entries.push(copy_entry(alloc, entry)?)?;
+        }
+        Ok(Fields::of_distinct(entries))
     }
-    Ok(Fields::of_distinct(entries))
 }
 
 #[cycle(copy)]

@@ -2,8 +2,17 @@
 #![tactic(auto)]
 
 mod copy;
+mod fields;
+mod laws;
 mod names;
+mod namespace;
+mod order;
+mod size;
 mod value;
 
-pub use containers::{Bytes, CText, Fields, List, Text};
+pub use containers::{Bytes, CText, List, Text};
+pub use fields::Fields;
+pub use laws::alike_looks_the_same;
+pub use namespace::NsName;
+pub use order::same_up_to_order;
 pub use value::{Doc, Ts, Value};

@@ -1,14 +1,16 @@
 //! Values and documents.
 ghost use Rattle.std.specs.Prelude.{◌≡◌, ◌↔◌, IsTrue, IfOk};
 
-use containers::{Bytes, CText, Fields, List, Text};
+use crate::fields::Fields;
+use containers::{Bytes, CText, List, Text};
 use std::alloc::{AllocError, Global};
 
 /// A document: names and values, with distinct names at every level.
 pub type Doc = Fields<Value>;
 
-/// A stamp of the oplog.
-#[derive(Clone, Copy, Debug, PartialEq, Eq)]
+/// A timestamp of the oplog: seconds since 1970, and an ordinal among those of one second. It is
+/// ordered by the seconds first.
+#[derive(Clone, Copy, Debug, PartialEq, Eq, PartialOrd, Ord)]
 pub struct Ts {
     pub secs: u32,
     pub inc: u32,
@@ -62,10 +64,14 @@ impl Value {
                 Value::Array(b) => same_items(a.as_slice(), b.as_slice()),
                 _ => false,
             },
-            Value::Binary { subtype: a, bytes: c } => match other {
-                Value::Binary { subtype: b, bytes: d } => {
-                    *a == *b && c.as_slice() == d.as_slice()
-                }
+            Value::Binary {
+                subtype: a,
+                bytes: c,
+            } => match other {
+                Value::Binary {
+                    subtype: b,
+                    bytes: d,
+                } => { *a == *b && c.as_slice() == d.as_slice() }
                 _ => false,
             },
             Value::Undefined => matches!(other, Value::Undefined),
@@ -82,16 +88,18 @@ impl Value {
                 _ => false,
             },
             Value::Null => matches!(other, Value::Null),
-            Value::Regex { pattern: a, options: c } => match other {
-                Value::Regex { pattern: b, options: d } => {
-                    a.as_str() == b.as_str() && c.as_str() == d.as_str()
-                }
+            Value::Regex {
+                pattern: a,
+                options: c,
+            } => match other {
+                Value::Regex {
+                    pattern: b,
+                    options: d,
+                } => { a.as_str() == b.as_str() && c.as_str() == d.as_str() }
                 _ => false,
             },
             Value::DbPointer { ns: a, id: c } => match other {
-                Value::DbPointer { ns: b, id: d } => {
-                    a.as_str() == b.as_str() && *c == *d
-                }
+                Value::DbPointer { ns: b, id: d } => { a.as_str() == b.as_str() && *c == *d }
                 _ => false,
             },
             Value::Code(a) => match other {

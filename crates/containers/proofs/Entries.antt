@@ -1,11 +1,10 @@
 -- Looking up and changing entries by place and by name.
-use Rattle.std.proofs.Common.{◌≡◌, ℕ, zero, suc, ◌+◌, ◌<◌, Bool, true, false, cond, List, [], ◌∷◌, ◌++◌, length, refl, sym, ap, subst, ◌∙◌, arith, set, get_or}
-use Rattle.std.specs.Prelude.{Option, Some, None, option_map, slice_get, remove, IfNone}
+use Rattle.std.proofs.Common.{◌≡◌, ℕ, zero, suc, ◌+◌, ◌<◌, ◌≤◌, Bool, true, false, cond, List, [], ◌∷◌, ◌++◌, length, refl, sym, ap, subst, ◌∙◌, arith, set, get_or}
+use Rattle.std.specs.Prelude.{Option, Some, None, option_map, slice_get, remove, IfNone, IsSome}
 use Rattle.std.specs.Str.{bytes_eq}
 use Rattle.std.specs.List.{position_from}
 use Rattle.std.proofs.lemmas.Slice.Eq.{bytes_eq-Decides}
 use Rattle.std.proofs.Common.{inl, inr}
-use Rattle.std.specs.Prelude.{◌⊎◌}
 use Rattle.std.proofs.lemmas.Bool.{cases_Bool}
 use Rattle.containers.specs.Entries.{IsAbsent, AreDistinct, names_of, place_of, lookup, put, without, with_value}
 
@@ -190,3 +189,41 @@ pub read_value : {A : Type 0} (es : List (List ℕ × A)) (i : ℕ) (e : List �
 read_value [] i e l h = absurd (omega arith)
 read_value (x ∷ es) zero e l h = ap (λ (y : List ℕ × _). Some y.1) (sym h)
 read_value (x ∷ es) (suc i) e l h = read_value es i e (omega arith) h
+
+-- ---- names that are there, and names that are not
+
+pub other_name : (n m : List ℕ) → (n ≡ m → ⊥) → bytes_eq n m ≡ false
+other_name n m d = elim (cases_Bool (bytes_eq n m)) [ inl h ↦ absurd (d ((bytes_eq-Decides n m).0 h)) | inr h ↦ h ]
+
+pub own_name : (n : List ℕ) → bytes_eq n n ≡ true
+own_name n = (bytes_eq-Decides n n).1 refl
+
+module _ {A : Type 0} where
+  -- a name that isn't there names nothing
+  pub absent_none : (k : List ℕ) (es : List (List ℕ × A)) → IsAbsent k (names_of es) → lookup k es ≡ None
+  absent_none k [] a = refl
+  absent_none k (e ∷ es) a = rw (other_name e.0 k (λ p. a.0 (sym p))) (absent_none k es a.1)
+
+  -- the fields without a name that is there are fewer
+  pub shorter : (k : List ℕ) (es : List (List ℕ × A)) → length (without k es) ≤ length es
+  shorter k [] = omega arith
+  shorter k (e ∷ es) = elim (cases_Bool (bytes_eq e.0 k)) [ inl h ↦ rw h (omega (arith, shorter k es)) | inr h ↦ rw h (omega (arith, shorter k es)) ]
+
+  pub fewer : (k : List ℕ) (es : List (List ℕ × A)) → IsSome (lookup k es) → length (without k es) < length es
+  fewer k [] s = absurd cc
+  fewer k (e ∷ es) s =
+      elim (cases_Bool (bytes_eq e.0 k)) [
+        | inl h ↦ rw h (omega (arith, shorter k es))
+        | inr h ↦ let t : IsSome (lookup k es) = rw h at s in rw h (omega (arith, fewer k es t))
+      ]
+
+  -- the value at a place, by its name
+  pub own_at : (es : List (List ℕ × A)) (i : ℕ) (n : List ℕ) (v : A) → AreDistinct (names_of es) → option_map (λ e. e.0) (slice_get es i) ≡ Some n → option_map (λ e. e.1) (slice_get es i) ≡ Some v → lookup n es ≡ Some v
+  own_at [] i n v d a b = absurd cc
+  own_at (e ∷ es) zero n v d a b = let p : e.0 ≡ n = cc in let q : e.1 ≡ v = cc in rw (p, own_name n, q) refl
+  own_at (e ∷ es) (suc i) n v d a b =
+      let r = own_at es i n v d.1 a b in
+      elim (cases_Bool (bytes_eq e.0 n)) [
+        | inl h ↦ let s : lookup n es ≡ None = absent_none n es (subst (λ (m : List ℕ). IsAbsent m (names_of es)) ((bytes_eq-Decides e.0 n).0 h) d.0) in let t : Some v ≡ None = sym r ∙ s in cc
+        | inr h ↦ rw h r
+      ]

@@ -26,6 +26,7 @@ impl<T> Model for List<T> {
 }
 
 impl<T> List<T> {
+    /// The empty list. It takes no memory.
     pub fn new(alloc: Global) -> List<T>
         ensures { result ≡ [] }
     {
@@ -34,10 +35,18 @@ impl<T> List<T> {
         }
     }
 
+    /// These elements, in their own memory.
     pub fn from_vec(items: Vec<T>) -> List<T>
         ensures { result ≡ items.items }
     {
         List { items }
+    }
+
+    /// The elements, in the memory that they are kept in.
+    pub fn into_vec(self) -> Vec<T>
+        ensures { result.items ≡ self }
+    {
+        self.items
     }
 
     pub fn as_slice(&self) -> &[T]

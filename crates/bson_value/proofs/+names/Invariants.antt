@@ -1,4 +1,4 @@
-use Rattle.std.proofs.Common.{◌≡◌, ◌+◌, ◌*◌, max, take}
+use Rattle.std.proofs.Common.{◌+◌, ◌*◌, max, take}
 use denote.Param.Weighed.{most}
 use Rattle.bson_value.specs.declared.value.Value.{size-Value}
 use Rattle.bson_value.specs.Distinct.{ItemsDistinct, FieldsDistinct}

@@ -1,7 +1,7 @@
 use Rattle.std.proofs.Common.{◌≡◌, ◌+◌, ◌*◌, ◌++◌, max, take}
 use denote.Param.Weighed.{most}
 use Rattle.bson_value.specs.declared.value.Value.{size-Value}
-use Rattle.bson_core.specs.Spelling.{elements_of, items_of}
+use Rattle.bson_value.specs.Spelling.{elements_of, items_of}
 use Rattle.bson_core.proofs.writing.+encode.Given as goal
 
 abbrev pub decreases-put_value : goal.decreases-put_value

@@ -1,0 +1,68 @@
+//! The first name of a document that stands twice.
+ghost use Rattle.std.specs.Prelude.{◌≡◌, ◌≤◌, [], length, List, ℕ};
+ghost use Rattle.bson_check.specs.Passing.{Path, has, is_above, repeat_at, fault_of};
+
+use crate::fault::{BsonFault, BsonKind};
+use crate::passing::step;
+use std::cmp::Ordering;
+
+// Whether an element of this name stands in the bytes before the last `left` ones.
+fn was_there(body: &[u8], left: usize, name: &[u8]) -> bool
+    ensures { (ns : List (List ℕ)) → (to : List ℕ) → Path ns body.now to → length to ≡ left → has name.now ns ≡ result }
+{
+    let mut rest = body;
+    'names: while let Some((tag, bytes)) = rest.split_first() {
+        if bytes.len() < left {
+            return false;
+        }
+        let (other, next) = step(*tag, bytes);
+        if other == name {
+            return true;
+        }
+        rest = next;
+    }
+    false
+}
+
+fn is_above(name: &[u8], top: &[u8]) -> bool
+    ensures { result ≡ is_above name.now top.now }
+{
+    matches!(top.cmp(name), Ordering::Less)
+}
+
+/// The first name that stands before it too, by its place, among the elements before the last `left` bytes.
+// A name above all before it isn't looked for.
+pub fn first_repeat(end: usize, body: &[u8], left: usize) -> Option<usize>
+    requires { length body.now ≤ end }
+    ensures { (ns : List (List ℕ)) → (to : List ℕ) → Path ns body.now to → length to ≡ left → repeat_at end [] ns body.now ≡ result }
+{
+    let mut rest = body;
+    let mut top = &body[..0];
+    'names: while let Some((tag, bytes)) = rest.split_first() {
+        if bytes.len() < left {
+            return None;
+        }
+        let (name, next) = step(*tag, bytes);
+        if is_above(name, top) {
+            top = name;
+        } else if was_there(body, bytes.len() + 1, name) {
+            return Some(end - bytes.len());
+        }
+        rest = next;
+    }
+    None
+}
+
+/// This fault, unless a name was repeated before it.
+pub fn first_fault(end: usize, body: &[u8], left: usize, fault: BsonFault) -> BsonFault
+    requires { length body.now ≤ end }
+    ensures { (ns : List (List ℕ)) → (to : List ℕ) → Path ns body.now to → length to ≡ left → fault_of (repeat_at end [] ns body.now) fault ≡ result }
+{
+    match first_repeat(end, body, left) {
+        Some(at) => BsonFault {
+            kind: BsonKind::Repeat,
+            at,
+        },
+        None => fault,
+    }
+}
