@@ -47,7 +47,7 @@ fn keeps_what_both_caps_allow(rt: HostRuntime) -> Result<(), Fail> {
             for _ in 0..*size {
                 bytes.push(0)?;
             }
-            inc = (inc + 1) % 100;
+            inc = inc % 100 + 1;
             let ts = Ts { secs: 1, inc };
             assert!(rt; ring.is_later(ts));
             let _ = ring.push(ts, bytes);

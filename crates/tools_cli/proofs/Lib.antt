@@ -1,1 +1,4 @@
 pub mod Walk
+pub mod Codes
+pub mod Telling
+pub mod Accepted

@@ -1,2 +1,4 @@
 pub mod Words
 pub mod Archive
+pub mod Answers
+pub mod Ends

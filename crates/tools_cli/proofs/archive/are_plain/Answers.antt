@@ -11,8 +11,8 @@ pub elements-preserved : goal.elements-preserved
 elements-preserved c =
     let here = c.elements.invariant in
     let goes : Goes c.elements.rest.now c.behind_plain-rest.result.now here.turns =
-      goes_on_at here.turns _ c.elements.rest.now _ _ _ c.in-Some.ensures.cases.0 here.enough (sym c.if-not-is_plain.ensures)
-        c.behind_name.ensures.value c.behind_plain-rest.ensures.value c.behind_name.ensures.shorter c.behind_plain-rest.ensures.shorter in
+    goes_on_at here.turns _ c.elements.rest.now _ _ _ c.in-Some.ensures.cases.0 here.enough (sym c.if-not-is_plain.ensures)
+    c.behind_name.ensures.value c.behind_plain-rest.ensures.value c.behind_name.ensures.shorter c.behind_plain-rest.ensures.shorter in
     record { turns = goes.fewer; enough = goes.enough; same = here.same ∙ goes.same }
 
 pub returns : goal.returns

@@ -1,0 +1,81 @@
+ghost use Rattle.std.specs.Prelude.{Ok};
+ghost use Rattle.tools_cli.specs.Words.{meaning_of, texts_of};
+ghost use Rattle.tools_cli.specs.Ends.{turn};
+ghost use Rattle.tools_cli.specs.Answers.{Says, Shows, Answers};
+
+use crate::archive::Form;
+use crate::input::read_input;
+use crate::report::tell;
+use crate::status::Status;
+use crate::texts::{HELP, VERSION};
+use crate::words;
+use crate::words::{Command, Verb, WordsFault};
+use std::alloc::Global;
+use tool_io::{Fault, Sink, Source};
+
+// Writes a text that the command shows.
+fn show<K: Sink>(text: &str, output: &mut K) -> Status
+    ensures { Shows text.now result (turn (K.written output.old) (K.faults output.old) (K.written output.new) (K.faults output.new)) }
+{
+    match output.write(text.as_bytes()) {
+        Ok(()) => Status::Done,
+        Err(Fault::Failed) => Status::WriteFault,
+        Err(Fault::NoMemory) => Status::NoMemory,
+    }
+}
+
+// What the command does, without its line on the report.
+#[tactic(auto, using(crate::proofs::Accepted::accepted_is))]
+fn perform<S: Source, K: Sink>(
+    alloc: Global,
+    command: &Command,
+    input: &mut S,
+    output: &mut K,
+) -> Status
+    ensures { Says (Ok (command.now.verb, command.now.choices.items)) result
+        (turn (S.left input.old) (S.faults input.old) (S.left input.new) (S.faults input.new))
+        (turn (K.written output.old) (K.faults output.old) (K.written output.new) (K.faults output.new)) }
+{
+    match command.verb {
+        Verb::Restore => match read_input(alloc, input) {
+            Ok(Form::Prelude) => Status::Done,
+            Ok(Form::Bad(fault)) => Status::BadArchive(fault),
+            Ok(Form::Unbuilt) => Status::Unbuilt,
+            Err(Fault::Failed) => Status::ReadFault,
+            Err(Fault::NoMemory) => Status::NoMemory,
+        },
+        Verb::Help => show(HELP, output),
+        Verb::Version => show(VERSION, output),
+    }
+}
+
+// The whole call, without its line on the report.
+fn run<S: Source, K: Sink>(alloc: Global, words: &[String], input: &mut S, output: &mut K) -> Status
+    ensures { Says (meaning_of (texts_of words.now)) result
+        (turn (S.left input.old) (S.faults input.old) (S.left input.new) (S.faults input.new))
+        (turn (K.written output.old) (K.faults output.old) (K.written output.new) (K.faults output.new)) }
+{
+    match words::read(alloc, words) {
+        Ok(command) => perform(alloc, &command, input, output),
+        Err(WordsFault::Usage { word }) => Status::Usage { word },
+        Err(WordsFault::NoMemory) => Status::NoMemory,
+    }
+}
+
+/// All that the program does: reads the input, writes the output, tells a line on the report where the status isn't 0, and answers
+/// the status.
+pub fn tools<S: Source, K: Sink, R: Sink>(
+    alloc: Global,
+    words: &[String],
+    input: &mut S,
+    output: &mut K,
+    report: &mut R,
+) -> u8
+    ensures { Answers (meaning_of (texts_of words.now)) result
+        (turn (S.left input.old) (S.faults input.old) (S.left input.new) (S.faults input.new))
+        (turn (K.written output.old) (K.faults output.old) (K.written output.new) (K.faults output.new))
+        (turn (R.written report.old) (R.faults report.old) (R.written report.new) (R.faults report.new)) }
+{
+    let status = run(alloc, words, input, output);
+    tell(alloc, status, report).code()
+}
