@@ -1,6 +1,6 @@
 -- A ring keeps the longest end of what was pushed that fits.
-use Rattle.std.proofs.Common.{◌≡◌, ℕ, zero, suc, ◌+◌, ◌-◌, ◌<◌, ◌≤◌, Bool, true, false, cond, ltb, List, [], ◌∷◌, ◌++◌, length, drop, refl, sym, ap, ◌∙◌, subst, inl, inr, arith, append_assoc, length-append, length-drop, ltb-true, ltb-false, lt-ltb, le-ltb}
-use Rattle.std.specs.Prelude.{Option, Some, None, ◌⊎◌, nat_lt, ◌&&◌}
+use Rattle.std.proofs.Common.{◌≡◌, ℕ, zero, suc, ◌+◌, ◌-◌, ◌<◌, ◌≤◌, Bool, true, false, List, [], ◌∷◌, ◌++◌, length, drop, refl, sym, ap, ◌∙◌, subst, inl, inr, arith, append_assoc, length-append, length-drop, ltb-true, lt-ltb}
+use Rattle.std.specs.Prelude.{Option, Some, None, ◌⊎◌, ◌&&◌}
 use Rattle.std.proofs.lemmas.List.{append-nil}
 use Rattle.std.proofs.lemmas.Bool.{cases_Bool}
 use Rattle.capped_oplog.specs.Ring.{Entry, total_of, exceeds, is_over, pushed, trimmed_down, after_pushes, Fits, IsSuffix, IsLongest, KeepsLongest}

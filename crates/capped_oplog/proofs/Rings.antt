@@ -1,10 +1,9 @@
 -- The entries of a ring after a push and after a trim.
-use Rattle.std.proofs.Common.{◌≡◌, ℕ, zero, suc, ◌+◌, ◌-◌, ◌*◌, ◌^◌, ◌<◌, ◌≤◌, Bool, true, false, cond, ltb, List, [], ◌∷◌, ◌++◌, length, drop, map, get_or, slice_index, refl, sym, ap, ◌∙◌, subst, inl, inr, arith, length-append, le-ltb, lt-ltb, ltb-true, ltb-false}
-use Rattle.std.specs.Prelude.{Option, Some, None, ◌⊎◌, slice_get, sum_by, nat_lt, if◌then◌else◌}
+use Rattle.std.proofs.Common.{◌≡◌, ℕ, zero, suc, ◌+◌, ◌-◌, ◌*◌, ◌^◌, ◌<◌, ◌≤◌, List, [], ◌∷◌, ◌++◌, length, drop, refl, sym, ap, ◌∙◌, subst, inl, inr, arith, length-append, ltb-true, ltb-false}
+use Rattle.std.specs.Prelude.{Option, Some, None, slice_get, nat_lt, if◌then◌else◌}
 use Rattle.std.proofs.lemmas.Bool.{cases_lt, cases_Bool}
-use Rattle.bson_value.specs.declared.value.Ts.{Ts}
 use Rattle.bson_value.specs.Timestamp.{stamp_number}
-use Rattle.capped_oplog.specs.Ring.{Entry, total_of, stamp_at, bytes_at, AreRising, IsSound, IsLater, pushed, trimmed, is_over}
+use Rattle.capped_oplog.specs.Ring.{Entry, total_of, stamp_at, bytes_at, AreRising, IsSound, IsLater}
 
 -- ---- timestamps by place
 

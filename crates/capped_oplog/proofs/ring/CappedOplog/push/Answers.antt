@@ -1,5 +1,5 @@
-use Rattle.std.proofs.Common.{arith, ap, sym, ◌+◌, ◌-◌, ◌∙◌, ◌≡◌, ◌<◌, ◌^◌, ℕ, List, subst, length}
-use Rattle.std.specs.Prelude.{Some, None, nat_lt, slice_get, if◌then◌else◌}
+use Rattle.std.proofs.Common.{arith, ap, sym, ◌+◌, ◌-◌, ◌≡◌, ℕ, List, subst, length}
+use Rattle.std.specs.Prelude.{None, nat_lt, slice_get, if◌then◌else◌}
 use Rattle.capped_oplog.specs.Ring.{Ring, Entry, IsSound, IsLater}
 use Rattle.capped_oplog.proofs.Rings.{total_fits, push_none, push_some, handed, handed_fits, same_cap}
 use Rattle.capped_oplog.proofs.ring.CappedOplog.push.Goals as goal
