@@ -32,9 +32,10 @@ module _ (words : List ℕ) (factor slot : ℕ) (within : word_of slot < length 
   still_within = omega (arith, length-set {A = ℕ}, within)
 
   has_both : HasBits (with_both words slot) slot
-  has_both =
-      (stays_set (with_bit words (word_of slot) (first_bit slot)) (word_of slot) (second_bit slot) (word_of slot) (first_bit slot) still_within (is_set words (word_of slot) (first_bit slot) within (omega arith)),
-       is_set (with_bit words (word_of slot) (first_bit slot)) (word_of slot) (second_bit slot) still_within (omega arith))
+  has_both = (
+    stays_set (with_bit words (word_of slot) (first_bit slot)) (word_of slot) (second_bit slot) (word_of slot) (first_bit slot) still_within (is_set words (word_of slot) (first_bit slot) within (omega arith)),
+    is_set (with_bit words (word_of slot) (first_bit slot)) (word_of slot) (second_bit slot) still_within (omega arith),
+  )
 
   one_still : (j m : ℕ) → bit_at (slice_index words j) m ≡ 1 → bit_at (slice_index (with_both words slot) j) m ≡ 1
   one_still j m h = stays_set (with_bit words (word_of slot) (first_bit slot)) (word_of slot) (second_bit slot) j m still_within (stays_set words (word_of slot) (first_bit slot) j m within h)

@@ -1,4 +1,4 @@
-use Rattle.std.proofs.Common.{rules, sym, ◌∙◌}
+use Rattle.std.proofs.Common.{rules}
 use Rattle.bson_check.proofs.Marks.{first_is_set, second_is_set}
 use Rattle.bson_check.proofs.slots.may_have.Goals as goal
 
