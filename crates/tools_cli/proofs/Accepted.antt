@@ -6,6 +6,7 @@ use Rattle.std.proofs.lemmas.Bool.{le-ltb, ltb-false}
 use Rattle.std.proofs.lemmas.List.{take-append-drop, drop-drop, take_at, drop_at, length-append}
 use Rattle.std.proofs.lemmas.Slice.Eq.{bytes_eq-Decides}
 use Rattle.tools_cli.specs.declared.archive.Form.TheVariants as forms
+use Rattle.tools_cli.proofs.Elements.{both, header_is, is_header_of}
 use Rattle.tools_cli.specs.Archive.{magic, terminator, is_header, IsPrelude, header_of, last_of, form_of}
 
 -- what a chain of tests says where its answer is this one
@@ -17,10 +18,6 @@ not_then false x y z never e = (refl, e)
 not_else : {A : Type 0} (b : Bool) (x y z : A) → (y ≡ z → ⊥) → (if b then x else y) ≡ z → (b ≡ true) × (x ≡ z)
 not_else true x y z never e = (refl, e)
 not_else false x y z never e = absurd (never e)
-
-both : (a b : Bool) → (a && b) ≡ true → (a ≡ true) × (b ≡ true)
-both true b e = (refl, e)
-both false b e = absurd cc
 
 same_bytes : (xs ys : List ℕ) → bytes_eq xs ys ≡ true → xs ≡ ys
 same_bytes xs ys e = (bytes_eq-Decides xs ys).0 e
@@ -48,7 +45,7 @@ accepted_is bytes e =
     record {
       header = header_of bytes;
       spelled = sym (ap (λ l. l ++ (header_of bytes ++ terminator)) (sym front) ∙ (ap (λ l. take 4 bytes ++ (header_of bytes ++ l)) (sym end) ∙ parts bytes (ltb-false _ _ c.0)));
-      accepted = f.1;
+      accepted = header_is (header_of bytes) f.1;
     }
 
 -- an input that passes each test
@@ -66,4 +63,4 @@ is_accepted bytes p =
     let shift : length bytes - 4 ≡ 4 + (length bytes - 8) = omega (arith, long) in
     let end : last_of bytes ≡ terminator =
     ap (λ n. drop n bytes) shift ∙ (sym (drop-drop (length bytes - 8) 4 bytes) ∙ (ap (drop (length bytes - 8)) behind ∙ drop_at p.header terminator (length bytes - 8) len)) in
-    passes bytes (le-ltb _ _ (omega (arith, long))) (bytes_same _ _ (ap (take 4) p.spelled)) (le-ltb _ _ (omega (arith, long))) (bytes_same _ _ end) (ap is_header header ∙ p.accepted)
+    passes bytes (le-ltb _ _ (omega (arith, long))) (bytes_same _ _ (ap (take 4) p.spelled)) (le-ltb _ _ (omega (arith, long))) (bytes_same _ _ end) (ap is_header header ∙ is_header_of p.header p.accepted)

@@ -1,3 +1,4 @@
+pub mod Elements
 pub mod Walk
 pub mod Codes
 pub mod Telling

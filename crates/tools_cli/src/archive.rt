@@ -1,10 +1,11 @@
 //! What an input is, as far as archives are read so far.
-ghost use Rattle.std.specs.Prelude.{◌≡◌, ◌≤◌, length, IsTrue};
-ghost use Rattle.bson_check.specs.Passing.{count_of, past_zero, jump};
+ghost use Rattle.std.specs.Prelude.{◌≡◌, ◌≤◌, length};
+ghost use Rattle.bson_check.specs.Passing.{past_zero};
 ghost use Rattle.tools_cli.specs.Archive.{elements_of, types_of, is_plain, are_plain, is_header, form_of};
 
-use bson_check::check;
-use bson_check::parts::{number_of, zero_place};
+use bson_check::parts::zero_place;
+use bson_check::passing::after;
+use bson_check::{MAX_DOCUMENT_BYTES, check};
 
 /// Why an input is no archive.
 #[derive(Clone, Copy, Debug, PartialEq, Eq)]
@@ -29,11 +30,10 @@ const MAGIC: [u8; 4] = [0x6d, 0xe2, 0x99, 0x81];
 
 const TERMINATOR: [u8; 4] = [0xff, 0xff, 0xff, 0xff];
 
-/// The largest document of an archive, in bytes and in levels.
-const MAX_BYTES: usize = 16_793_600;
-
+// The most levels of a document in an archive.
 const MAX_LEVELS: usize = 200;
 
+// What stands behind an element's name and its zero.
 #[tactic(auto, unfolding(bson_check::specs::Passing::past_zero))]
 fn behind_name(bytes: &[u8]) -> &[u8]
     ensures value { result.now ≡ past_zero bytes.now }
@@ -45,38 +45,14 @@ fn behind_name(bytes: &[u8]) -> &[u8]
     }
 }
 
-#[tactic(auto, unfolding(bson_check::specs::Passing::count_of))]
-fn text_len(bytes: &[u8]) -> usize
-    ensures { result ≡ count_of bytes.now }
-{
-    if bytes.len() < 4 {
-        0
-    } else {
-        number_of(bytes) as usize
-    }
-}
-
-// The bytes behind a string or an int32 number; none where the value isn't whole.
-#[tactic(auto, unfolding(bson_check::specs::Passing::jump))]
-fn behind_plain(tag: u8, bytes: &[u8]) -> &[u8]
-    requires { IsTrue (is_plain tag) }
-    ensures value { result.now ≡ jump tag bytes.now }
-    ensures shorter { length result.now ≤ length bytes.now }
-{
-    let len = if tag == 2 {
-        text_len(bytes).saturating_add(4)
-    } else {
-        4
-    };
-    bytes.get(len..).unwrap_or(&[])
-}
-
+// Whether it is the type of a string or of an int32 number.
 fn is_plain(tag: u8) -> bool
     ensures { result ≡ is_plain tag }
 {
     tag == 2 || tag == 16
 }
 
+// Whether all of these elements are strings and int32 numbers.
 fn are_plain(body: &[u8]) -> bool
     ensures { result ≡ are_plain body.now }
 {
@@ -85,11 +61,12 @@ fn are_plain(body: &[u8]) -> bool
         if !is_plain(*tag) {
             return false;
         }
-        rest = behind_plain(*tag, behind_name(bytes));
+        rest = after(*tag, behind_name(bytes));
     }
     true
 }
 
+// What stands between a document's length and its final zero.
 fn elements(bytes: &[u8]) -> &[u8]
     ensures { result.now ≡ elements_of bytes.now }
 {
@@ -104,9 +81,10 @@ fn elements(bytes: &[u8]) -> &[u8]
 fn is_header(bytes: &[u8]) -> bool
     ensures { result ≡ is_header bytes.now }
 {
-    check(bytes, MAX_BYTES, MAX_LEVELS).is_ok() && are_plain(elements(bytes))
+    check(bytes, MAX_DOCUMENT_BYTES, MAX_LEVELS).is_ok() && are_plain(elements(bytes))
 }
 
+/// What an input is. It takes no memory.
 #[tactic(auto, unfolding(crate::specs::Archive::form_of))]
 pub fn read_form(bytes: &[u8]) -> Form
     ensures { result ≡ form_of bytes.now }

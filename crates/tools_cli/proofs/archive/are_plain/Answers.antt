@@ -10,9 +10,9 @@ returns-then-not-is_plain c =
 pub elements-preserved : goal.elements-preserved
 elements-preserved c =
     let here = c.elements.invariant in
-    let goes : Goes c.elements.rest.now c.behind_plain-rest.result.now here.turns =
+    let goes : Goes c.elements.rest.now c.after-rest.result.now here.turns =
     goes_on_at here.turns _ c.elements.rest.now _ _ _ c.in-Some.ensures.cases.0 here.enough (sym c.if-not-is_plain.ensures)
-    c.behind_name.ensures.value c.behind_plain-rest.ensures.value c.behind_name.ensures.shorter c.behind_plain-rest.ensures.shorter in
+    c.behind_name.ensures.value c.after-rest.ensures.place c.behind_name.ensures.shorter c.after-rest.ensures.fits in
     record { turns = goes.fewer; enough = goes.enough; same = here.same ∙ goes.same }
 
 pub returns : goal.returns
