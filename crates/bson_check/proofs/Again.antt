@@ -1,7 +1,7 @@
 -- What is spelled is read.
-use Rattle.std.proofs.Common.{◌≡◌, ℕ, zero, suc, ◌+◌, ◌-◌, ◌<◌, ◌≤◌, ◌^◌, Bool, true, false, cond, ltb, eqb, List, [], ◌∷◌, ◌++◌, length, take, drop, get_or, slice_index, Result, Ok, Err, refl, sym, ap, subst, ◌∙◌, append_assoc, add-zero, zero-add, arith}
-use Rattle.std.specs.Prelude.{◌==◌, Option, None, Some, ℤ, Contains, if◌then◌else◌}
-use Rattle.std.specs.Int.{w32, w64, from_le_bytes, cast_signed}
+use Rattle.std.proofs.Common.{◌≡◌, ℕ, zero, suc, ◌+◌, ◌-◌, ◌<◌, ◌≤◌, ◌^◌, Bool, true, false, ltb, eqb, List, [], ◌∷◌, ◌++◌, length, take, drop, slice_index, Ok, refl, sym, ap, subst, ◌∙◌, append_assoc, add-zero, zero-add, arith}
+use Rattle.std.specs.Prelude.{◌==◌, None, Some, ℤ, Contains}
+use Rattle.std.specs.Int.{w32, from_le_bytes}
 use Rattle.std.specs.List.{position_from}
 use Rattle.std.specs.Str.{is_utf8, bytes_eq}
 use Rattle.std.proofs.lemmas.List.{take_at, drop_at, get_or_at, length-append, append-nil}
@@ -10,12 +10,11 @@ use Rattle.std.proofs.Math.Dec.{eqb-suc-zero}
 use Rattle.std.proofs.lemmas.Slice.Eq.{bytes_eq-Decides}
 use Rattle.containers.specs.Entries.{AreDistinct, IsAbsent, names_of, place_of}
 use Rattle.bson_value.specs.declared.value.Ts.{Ts}
-use Rattle.bson_value.specs.declared.value.Value.{Value, out-Value, roll-Value, roll-out-Value, out-roll-Value}
+use Rattle.bson_value.specs.declared.value.Value.{Value, out-Value, roll-Value, roll-out-Value}
 use Rattle.bson_value.specs.declared.value.Value.TheOpen.{Value-F}
 use Rattle.bson_value.specs.declared.value.Value.TheVariants as values
 use Rattle.bson_value.specs.declared.value.Value.TheVariants.{rolls-Null, rolls-Int, rolls-Bool, rolls-Str, rolls-Object, rolls-Array, rolls-Undefined, rolls-Code, rolls-Symbol, rolls-MinKey, rolls-MaxKey, rolls-Double, rolls-Oid, rolls-Decimal, rolls-Date, rolls-Long, rolls-Binary, rolls-Regex, rolls-DbPointer, rolls-Stamp, rolls-ScopedCode}
-use Rattle.bson_check.specs.declared.fault.BsonFault.{BsonFault}
-use Rattle.bson_check.specs.Reading.{◌>>=◌, Taken, Frame, Scoped, Reader, number, place, run_at, int_at, bool_at, text_at, raw_at, binary_at, cut_at, regex_at, pointer_at, frame_at, scope_at, total_at, name_at, named, is_type, field_at, item_at, fields_at, items_at, value_with, value_at, document_at, array_at, scoped_at, document_of, stamp_of}
+use Rattle.bson_check.specs.Reading.{Taken, Reader, number, place, run_at, int_at, bool_at, text_at, raw_at, binary_at, cut_at, regex_at, pointer_at, frame_at, scope_at, total_at, name_at, named, is_type, field_at, item_at, fields_at, items_at, value_with, value_at, document_at, array_at, scoped_at, document_of, stamp_of}
 use Rattle.bson_check.specs.Spells.{IsCount, IsSigned, IsName, IsString, IsFrame, type_byte, AreBytesOf, AreFields, AreItems, IsDocument, IsArray}
 use Rattle.bson_check.proofs.Cutting.{Begins, begins}
 

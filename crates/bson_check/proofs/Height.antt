@@ -1,7 +1,7 @@
 -- The levels of what is spelled: as many as it has are needed, and they are enough.
-use Rattle.std.proofs.Common.{◌≡◌, ℕ, zero, suc, ◌+◌, ◌<◌, ◌≤◌, max, List, [], ◌∷◌, map, refl, sym, ap, subst, ◌∙◌, arith}
+use Rattle.std.proofs.Common.{◌≡◌, ℕ, zero, suc, ◌≤◌, max, List, [], ◌∷◌, map, refl, sym, ap, ◌∙◌, arith}
 use Rattle.bson_value.specs.Levels.{largest, levels_below, levels_step, levels_in, levels_of}
-use Rattle.bson_value.specs.declared.value.Value.{Value, out-Value, roll-Value, roll-out-Value, fold-Value, fold-roll-Value, map-Value}
+use Rattle.bson_value.specs.declared.value.Value.{Value, out-Value, roll-out-Value, fold-Value, fold-roll-Value, map-Value}
 use Rattle.bson_value.specs.declared.value.Value.TheOpen.{Value-F}
 use Rattle.bson_check.specs.Spells.{AreBytesOf, AreFields, AreItems, IsDocument, IsArray}
 

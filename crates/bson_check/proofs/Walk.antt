@@ -55,7 +55,7 @@ not_equal : (m n : List ℕ) (b : Bool) → bytes_eq n m ≡ b → (n ≡ m → 
 not_equal m n true e differs = absurd (differs ((bytes_eq-Decides n m).0 e))
 not_equal m n false e differs = e
 
-less_of : (o : Ordering) → is_lt o ≡ true → o ≡ Less
+pub less_of : (o : Ordering) → is_lt o ≡ true → o ≡ Less
 less_of Less e = refl
 less_of Equal e = absurd cc
 less_of Greater e = absurd cc

@@ -1,6 +1,6 @@
 -- What the grammar says of whole inputs, and of their faults.
-use Rattle.std.proofs.Common.{◌≡◌, ℕ, ◌+◌, ◌<◌, ◌≤◌, List, [], ◌∷◌, ◌++◌, length, Result, Ok, Err, refl, sym, ap, subst, ◌∙◌, arith}
-use Rattle.std.specs.Prelude.{Option, Some, None, ◌↔◌, IsOk, IfOk, IfErr, MatchResult}
+use Rattle.std.proofs.Common.{◌≡◌, ℕ, ◌+◌, ◌≤◌, List, length, Result, Ok, Err, refl, sym, ap, subst, ◌∙◌, arith}
+use Rattle.std.specs.Prelude.{Some, None, ◌↔◌, IsOk, IfOk, IfErr, MatchResult}
 use Rattle.std.specs.Result.{result_err}
 use Rattle.bson_value.specs.Levels.{levels_of}
 use Rattle.bson_value.specs.declared.value.Value.{Value}
@@ -8,7 +8,7 @@ use Rattle.bson_check.specs.declared.fault.BsonFault.{BsonFault}
 use Rattle.bson_check.specs.declared.fault.DecodeFault.{DecodeFault}
 use Rattle.bson_check.specs.declared.fault.DecodeFault.TheVariants as errors
 use Rattle.bson_check.specs.Reading.{Reads, Gives, Fails, void, document_of}
-use Rattle.bson_check.specs.Spells.{IsDocument, Spells, SpellsWithin, IsSomeDocument, SpelledOnce, LevelsNeeded}
+use Rattle.bson_check.specs.Spells.{Spells, SpellsWithin, IsSomeDocument, SpelledOnce, LevelsNeeded}
 use Rattle.bson_check.specs.Faults.{IsFault, first_fault, FaultlessIfSpelled}
 use Rattle.bson_check.proofs.Cutting.{ok_is}
 use Rattle.bson_check.proofs.Walk.{void_of}

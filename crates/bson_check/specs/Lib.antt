@@ -2,3 +2,5 @@ pub mod Reading
 pub mod Passing
 pub mod Spells
 pub mod Faults
+pub mod Blocks
+pub mod Slots

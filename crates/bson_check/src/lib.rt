@@ -1,6 +1,7 @@
 //! Whether bytes are a document of BSON, and else the first fault.
 #![tactic(auto)]
 
+mod blocks;
 mod checking;
 mod fault;
 mod laws;
@@ -8,8 +9,10 @@ mod length;
 pub mod parts;
 pub mod passing;
 pub mod repeats;
+mod slots;
+mod table;
 
 pub use checking::check;
-pub use length::{MAX_DOCUMENT_BYTES, doc_len};
 pub use fault::{BsonFault, BsonKind, DecodeFault};
 pub use laws::{faultless_if_spelled, levels_needed, spelled_once};
+pub use length::{MAX_DOCUMENT_BYTES, doc_len};

@@ -15,7 +15,7 @@ fn count(bytes: &[u8]) -> usize
     number_of(bytes) as usize
 }
 
-fn behind(n: usize, bytes: &[u8]) -> &[u8]
+pub(crate) fn behind(n: usize, bytes: &[u8]) -> &[u8]
     ensures { result.now ≡ drop n bytes.now }
 {
     if n <= bytes.len() {
@@ -67,5 +67,19 @@ pub(crate) fn step(tag: u8, bytes: &[u8]) -> (&[u8], &[u8])
     match zero_place(bytes) {
         Some(i) => (&bytes[..i], after(tag, &bytes[i + 1..])),
         None => (bytes, after(tag, &bytes[..0])),
+    }
+}
+
+// The name of the first element.
+#[tactic(auto, unfolding(crate::specs::Passing::upto_zero))]
+pub(crate) fn name_of(bytes: &[u8]) -> &[u8]
+    ensures { result.now ≡ first_name bytes.now }
+{
+    match bytes.split_first() {
+        None => bytes,
+        Some((_, bytes)) => match zero_place(bytes) {
+            Some(i) => &bytes[..i],
+            None => bytes,
+        },
     }
 }

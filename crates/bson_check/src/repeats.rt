@@ -2,6 +2,7 @@
 ghost use Rattle.std.specs.Prelude.{◌≡◌, ◌≤◌, [], length, List, ℕ};
 ghost use Rattle.bson_check.specs.Passing.{Path, has, is_above, repeat_at, fault_of};
 
+use crate::blocks::{LONGEST, in_blocks};
 use crate::fault::{BsonFault, BsonKind};
 use crate::passing::step;
 use std::cmp::Ordering;
@@ -30,14 +31,17 @@ fn is_above(name: &[u8], top: &[u8]) -> bool
     matches!(top.cmp(name), Ordering::Less)
 }
 
+// A name that isn't above all before it is looked for: the first ones element after element, and where they are more than that all names block after block.
+const FEW: u32 = 32;
+
 /// The first name that stands before it too, by its place, among the elements before the last `left` bytes.
-// A name above all before it isn't looked for.
 pub fn first_repeat(end: usize, body: &[u8], left: usize) -> Option<usize>
     requires { length body.now ≤ end }
     ensures { (ns : List (List ℕ)) → (to : List ℕ) → Path ns body.now to → length to ≡ left → repeat_at end [] ns body.now ≡ result }
 {
     let mut rest = body;
     let mut top = &body[..0];
+    let mut tries = FEW;
     'names: while let Some((tag, bytes)) = rest.split_first() {
         if bytes.len() < left {
             return None;
@@ -45,8 +49,12 @@ pub fn first_repeat(end: usize, body: &[u8], left: usize) -> Option<usize>
         let (name, next) = step(*tag, bytes);
         if is_above(name, top) {
             top = name;
+        } else if tries == 0 && body.len() <= LONGEST {
+            return in_blocks(end, body, left);
         } else if was_there(body, bytes.len() + 1, name) {
             return Some(end - bytes.len());
+        } else {
+            tries = tries.saturating_sub(1);
         }
         rest = next;
     }

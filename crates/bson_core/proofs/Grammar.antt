@@ -1,7 +1,7 @@
 -- The spelling of a document is in the grammar.
-use Rattle.std.proofs.Common.{◌≡◌, ℕ, zero, suc, ◌+◌, ◌<◌, ◌≤◌, ◌^◌, ◌%◌, Bool, true, false, max, List, [], ◌∷◌, ◌++◌, length, map, refl, sym, ap, subst, ◌∙◌, append_assoc, arith}
-use Rattle.std.specs.Prelude.{ℤ, FitsSigned, Contains}
-use Rattle.std.specs.Int.{w32, w64, to_le_bytes, from_le_bytes, cast_unsigned, cast_signed}
+use Rattle.std.proofs.Common.{◌≡◌, ℕ, zero, suc, ◌+◌, ◌<◌, ◌≤◌, ◌^◌, ◌%◌, true, List, [], ◌∷◌, ◌++◌, length, map, refl, sym, ap, subst, ◌∙◌, append_assoc, arith}
+use Rattle.std.specs.Prelude.{ℤ, FitsSigned, Contains, Result, Ok, Err, IfOk, OnOk}
+use Rattle.std.specs.Int.{w32, w64, to_le_bytes, cast_unsigned, cast_signed}
 use Rattle.std.specs.List.{AllByRecursion}
 use Rattle.std.specs.Str.{is_utf8}
 use Rattle.std.specs.Fmt.{decimal}
@@ -11,11 +11,11 @@ use Rattle.std.proofs.lemmas.List.{length-append, length-map}
 use Rattle.std.proofs.lemmas.Nat.{from_le_bytes-to_le_bytes_4, from_le_bytes-to_le_bytes_8}
 use Rattle.std.proofs.Math.Facts.{to_z-of_z, Fits-of_z}
 use Rattle.bson_value.specs.Levels.{largest, levels_in, levels_of}
-use Rattle.bson_value.specs.Spelling.{Typed, count_bytes, element, framed, numbered, counted, text_bytes, spelling_step, spelling, elements_of, items_of, document_text, tag_of, spelled}
-use Rattle.bson_value.specs.declared.value.Value.{Value, Value-F, out-Value, roll-Value, roll-out-Value, fold-Value, fold-roll-Value, map-Value}
+use Rattle.bson_value.specs.Spelling.{Typed, count_bytes, framed, numbered, counted, text_bytes, spelling_step, spelling, elements_of, items_of, document_text, tag_of, spelled}
+use Rattle.bson_value.specs.declared.value.Value.{Value, Value-F, out-Value, roll-out-Value, fold-Value, fold-roll-Value, map-Value}
 use Rattle.bson_check.specs.Spells.{IsCount, IsSigned, IsName, IsString, IsFrame, type_byte, AreBytesOf, AreFields, AreItems, IsDocument, IsArray, Spells}
 use Rattle.bson_check.proofs.Height.{levels_at, levels_out, object_levels, code_levels, array_levels}
-use Rattle.bson_core.specs.Kept.{AreNames, KeptIn, AllKept, ItemsKept, FieldsKept, IsKept, SpellingSpells}
+use Rattle.bson_core.specs.Kept.{KeptIn, AllKept, ItemsKept, FieldsKept, IsKept, SpellingSpells}
 use Rattle.bson_core.proofs.Held.{HeldKept, held_kept, here_kept}
 
 -- ---- parts
@@ -184,3 +184,7 @@ mutual
 pub spelling_spells : SpellingSpells
 unfolding Spells
 spelling_spells fs k small = (small, levels_of fs, document_spelled (levels_of fs) fs k (omega arith) small)
+
+pub written_spells : {E : Type 0} (fs : List (List ℕ × Value)) (r : Result (List ℕ) E) → IfOk r (λ b. b ≡ document_text fs) → OnOk r (IsKept fs) → IfOk r (λ b. length b < 2 ^ 31 → Spells b fs)
+written_spells fs (Ok b) is k = λ small. subst (λ (c : List ℕ). Spells c fs) (sym is) (spelling_spells fs k (subst (λ (c : List ℕ). length c < 2 ^ 31) is small))
+written_spells fs (Err e) is k = tt

@@ -1,9 +1,9 @@
 -- Spelling elements one after the other, as a loop does.
-use Rattle.std.proofs.Common.{◌≡◌, ℕ, suc, ◌+◌, ◌<◌, List, [], ◌∷◌, ◌++◌, length, map, take, get_or, refl, sym, ◌∙◌, append_assoc, add-zero, zero-add, arith}
+use Rattle.std.proofs.Common.{◌≡◌, ℕ, suc, ◌+◌, ◌<◌, List, [], ◌∷◌, ◌++◌, length, map, take, get_or, refl, sym, ap, ◌∙◌, append_assoc, add-zero, zero-add, arith}
 use Rattle.std.specs.Fmt.{decimal}
 use Rattle.std.proofs.lemmas.List.{take_more, map-append, append-nil, length-map, length-take}
 use Rattle.bson_value.specs.declared.value.Value.{Value}
-use Rattle.bson_value.specs.Spelling.{Typed, element, numbered, spelling, items_of}
+use Rattle.bson_value.specs.Spelling.{Typed, element, numbered, spelling, elements_of, items_of}
 
 numbered-push : (i : ℕ) (xs : List Typed) (y : Typed) → numbered i (xs ++ y ∷ []) ≡ numbered i xs ++ element (decimal (i + length xs), y)
 numbered-push i [] y = rw (add-zero, append-nil) refl
@@ -24,3 +24,16 @@ pub item_put : (old now new name : List ℕ) (vs : List Value) (i : ℕ) (v : Va
     → new ≡ now ++ element (name, spelling v) → new ≡ old ++ items_of (take (i + 1) vs)
 item_put old now new name vs i v so_far named lt at put =
     rw (put, so_far, named, items_more vs i v lt at) (append_assoc old (items_of (take i vs)) (element (decimal i, spelling v)))
+
+elements-push : (fs : List (List ℕ × Value)) (e : List ℕ × Value) → elements_of (fs ++ e ∷ []) ≡ elements_of fs ++ element (e.0, spelling e.1)
+elements-push [] e = append-nil (element (e.0, spelling e.1))
+elements-push (f ∷ fs) e =
+    ap (λ (b : List ℕ). element (f.0, spelling f.1) ++ b) (elements-push fs e) ∙ sym (append_assoc (element (f.0, spelling f.1)) (elements_of fs) (element (e.0, spelling e.1)))
+
+-- the step of the loop over the fields
+pub field_put : (old now new : List ℕ) (fs : List (List ℕ × Value)) (i : ℕ) (e : List ℕ × Value) → now ≡ old ++ elements_of (take i fs) → i < length fs → e ≡ get_or fs i e
+    → new ≡ now ++ element (e.0, spelling e.1) → new ≡ old ++ elements_of (take (i + 1) fs)
+field_put old now new fs i e so_far lt at put =
+    let more : take (i + 1) fs ≡ take i fs ++ e ∷ [] = take_more fs i e lt ∙ rw (← at) refl in
+    put ∙ ap (λ (b : List ℕ). b ++ element (e.0, spelling e.1)) so_far ∙ append_assoc old (elements_of (take i fs)) (element (e.0, spelling e.1))
+    ∙ ap (λ (b : List ℕ). old ++ b) (sym (elements-push (take i fs) e) ∙ ap elements_of (sym more))

@@ -1,11 +1,16 @@
 //! Documents of BSON and their bytes.
 #![tactic(auto)]
 
+mod laws;
 mod reading;
 mod writing;
 
-pub use bson_check::{BsonFault, BsonKind, DecodeFault, MAX_DOCUMENT_BYTES, check, doc_len};
+pub use bson_check::{
+    BsonFault, BsonKind, DecodeFault, MAX_DOCUMENT_BYTES, check, doc_len, faultless_if_spelled,
+    levels_needed, spelled_once,
+};
 pub use bson_value::{Bytes, CText, Doc, Fields, List, NsName, Text, Ts, Value, same_up_to_order};
+pub use laws::spelling_spells;
 pub use reading::decode;
 pub use writing::encode;
 

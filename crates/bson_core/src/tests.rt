@@ -1,4 +1,6 @@
 //! Worked documents, and the first fault of bytes that are none.
+ghost use Rattle.std.specs.Prelude.{◌<◌};
+
 use super::*;
 use std::alloc::{AllocError, Global};
 use std::test::Fail;

@@ -1,5 +1,9 @@
 //! Documents as bytes.
-ghost use Rattle.std.specs.Prelude.{◌≡◌, ◌+◌, ◌-◌, ◌≤◌, ◌++◌, ◌∷◌, [], ℕ, length, take, drop, OnOk, OnErr, IfOk, map};
+ghost use Rattle.std.specs.Prelude.{◌≡◌, ◌+◌, ◌-◌, ◌<◌, ◌≤◌, ◌^◌, true, ◌++◌, ◌∷◌, [], ℕ, length, take, drop, OnOk, OnErr, IfOk, map};
+ghost use Rattle.std.specs.Str.{is_utf8};
+ghost use Rattle.std.specs.List.{AllByRecursion};
+ghost use Rattle.bson_check.specs.Spells.{IsName, Spells};
+ghost use Rattle.bson_core.specs.Kept.{AllKept, ItemsKept, FieldsKept, IsKept};
 ghost use Rattle.bson_value.specs.Spelling.{spelling, tag_of, spelled, typed_fields, numbered, counted, text_bytes, elements_of, items_of, element, count_bytes, framed, document_text};
 
 use bson_value::{Bytes, CText, Doc, Text, Value};
@@ -14,20 +18,38 @@ fn patch(out: &mut Vec<u8>, start: usize)
     out[start..start + 4].copy_from_slice(&count.to_le_bytes());
 }
 
-fn put_text(out: &mut Vec<u8>, text: &[u8]) -> Result<(), AllocError>
-    ensures { OnOk result (out.new.items ≡ out.old.items ++ text_bytes text.now) }
+fn text_of(text: &Text) -> &str
+    ensures value { result.now ≡ text.now }
+    ensures utf8 { is_utf8 text.now ≡ true }
 {
+    text.as_str()
+}
+
+fn name_of(name: &CText) -> &str
+    ensures value { result.now ≡ name.now }
+    ensures name { IsName name.now }
+{
+    name.as_str()
+}
+
+fn put_text(out: &mut Vec<u8>, text: &Text) -> Result<(), AllocError>
+    ensures bytes { OnOk result (out.new.items ≡ out.old.items ++ text_bytes text.now) }
+    ensures utf8 { is_utf8 text.now ≡ true }
+{
+    let text = text_of(text);
     let count = ((text.len() as u64 + 1) % 4294967296) as u32;
     out.extend_from_slice(&count.to_le_bytes())?;
-    out.extend_from_slice(text)?;
+    out.extend_from_slice(text.as_bytes())?;
     out.push(0)?;
     Ok(())
 }
 
-fn put_name(out: &mut Vec<u8>, name: &[u8]) -> Result<(), AllocError>
-    ensures { OnOk result (out.new.items ≡ out.old.items ++ name.now ++ 0 ∷ []) }
+fn put_name(out: &mut Vec<u8>, name: &CText) -> Result<(), AllocError>
+    ensures bytes { OnOk result (out.new.items ≡ out.old.items ++ name.now ++ 0 ∷ []) }
+    ensures name { IsName name.now }
 {
-    out.extend_from_slice(name)?;
+    let name = name_of(name);
+    out.extend_from_slice(name.as_bytes())?;
     out.push(0)?;
     Ok(())
 }
@@ -70,16 +92,18 @@ fn type_of(value: &Value) -> u8
     }
 }
 
+#[tactic(auto, using(crate::proofs::Held::keeping))]
 #[cycle(encode)]
 fn put_value(alloc: Global, out: &mut Vec<u8>, value: &Value) -> Result<(), AllocError>
-    ensures { OnOk result (out.new.items ≡ out.old.items ++ spelled value.now) }
+    ensures bytes { OnOk result (out.new.items ≡ out.old.items ++ spelled value.now) }
+    ensures kept { OnOk result (AllKept value.now) }
 {
     match value {
         Value::Double(d) => {
             out.extend_from_slice(d)?;
             Ok(())
         }
-        Value::Str(text) => put_text(out, text.as_str().as_bytes()),
+        Value::Str(text) => put_text(out, text),
         Value::Object(doc) => put_document(alloc, out, doc),
         Value::Array(items) => put_array(alloc, out, items.as_slice()),
         Value::Binary { subtype, bytes } => put_binary(out, *subtype, bytes.as_slice()),
@@ -98,16 +122,16 @@ fn put_value(alloc: Global, out: &mut Vec<u8>, value: &Value) -> Result<(), Allo
         }
         Value::Null => Ok(()),
         Value::Regex { pattern, options } => {
-            put_name(out, pattern.as_str().as_bytes())?;
-            put_name(out, options.as_str().as_bytes())
+            put_name(out, pattern)?;
+            put_name(out, options)
         }
         Value::DbPointer { ns, id } => {
-            put_text(out, ns.as_str().as_bytes())?;
+            put_text(out, ns)?;
             out.extend_from_slice(id)?;
             Ok(())
         }
-        Value::Code(text) => put_text(out, text.as_str().as_bytes()),
-        Value::Symbol(text) => put_text(out, text.as_str().as_bytes()),
+        Value::Code(text) => put_text(out, text),
+        Value::Symbol(text) => put_text(out, text),
         Value::ScopedCode { code, scope } => put_scoped(alloc, out, code, scope),
         Value::Int(n) => {
             out.extend_from_slice(&n.to_le_bytes())?;
@@ -133,11 +157,12 @@ fn put_value(alloc: Global, out: &mut Vec<u8>, value: &Value) -> Result<(), Allo
 
 #[cycle(encode)]
 fn put_scoped(alloc: Global, out: &mut Vec<u8>, code: &Text, scope: &Doc) -> Result<(), AllocError>
-    ensures { OnOk result (out.new.items ≡ out.old.items ++ counted (text_bytes code.now ++ document_text scope.now)) }
+    ensures bytes { OnOk result (out.new.items ≡ out.old.items ++ counted (text_bytes code.now ++ document_text scope.now)) }
+    ensures kept { OnOk result ((is_utf8 code.now ≡ true) × IsKept scope.now) }
 {
     let start = out.len();
     out.extend_from_slice(&[0, 0, 0, 0])?;
-    put_text(out, code.as_str().as_bytes())?;
+    put_text(out, code)?;
     put_document(alloc, out, scope)?;
     patch(out, start);
     Ok(())
@@ -145,7 +170,8 @@ fn put_scoped(alloc: Global, out: &mut Vec<u8>, code: &Text, scope: &Doc) -> Res
 
 #[cycle(encode)]
 fn put_document(alloc: Global, out: &mut Vec<u8>, doc: &Doc) -> Result<(), AllocError>
-    ensures { OnOk result (out.new.items ≡ out.old.items ++ document_text doc.now) }
+    ensures bytes { OnOk result (out.new.items ≡ out.old.items ++ document_text doc.now) }
+    ensures kept { OnOk result (IsKept doc.now) }
 {
     let start = out.len();
     out.extend_from_slice(&[0, 0, 0, 0])?;
@@ -157,7 +183,8 @@ fn put_document(alloc: Global, out: &mut Vec<u8>, doc: &Doc) -> Result<(), Alloc
 
 #[cycle(encode)]
 fn put_array(alloc: Global, out: &mut Vec<u8>, items: &[Value]) -> Result<(), AllocError>
-    ensures { OnOk result (out.new.items ≡ out.old.items ++ framed (items_of items.now)) }
+    ensures bytes { OnOk result (out.new.items ≡ out.old.items ++ framed (items_of items.now)) }
+    ensures kept { OnOk result (ItemsKept items.now) }
 {
     let start = out.len();
     out.extend_from_slice(&[0, 0, 0, 0])?;
@@ -169,17 +196,28 @@ fn put_array(alloc: Global, out: &mut Vec<u8>, items: &[Value]) -> Result<(), Al
 
 #[cycle(encode)]
 fn put_fields(alloc: Global, out: &mut Vec<u8>, fields: &[(CText, Value)]) -> Result<(), AllocError>
-    ensures { OnOk result (out.new.items ≡ out.old.items ++ elements_of fields.now) }
+    ensures bytes { OnOk result (out.new.items ≡ out.old.items ++ elements_of fields.now) }
+    ensures kept { OnOk result (AllByRecursion (λ e. IsName e.0) fields.now × FieldsKept fields.now) }
 {
     for field in fields {
-        put_element(alloc, out, field.0.as_str().as_bytes(), &field.1)?;
+        put_field(alloc, out, field)?;
     }
     Ok(())
 }
 
 #[cycle(encode)]
+fn put_field(alloc: Global, out: &mut Vec<u8>, field: &(CText, Value)) -> Result<(), AllocError>
+    ensures bytes { OnOk result (out.new.items ≡ out.old.items ++ element (field.now.0, spelling field.now.1)) }
+    ensures kept { OnOk result (IsName field.now.0 × AllKept field.now.1) }
+{
+    let name = name_of(&field.0);
+    put_element(alloc, out, name.as_bytes(), &field.1)
+}
+
+#[cycle(encode)]
 fn put_items(alloc: Global, out: &mut Vec<u8>, items: &[Value]) -> Result<(), AllocError>
-    ensures { OnOk result (out.new.items ≡ out.old.items ++ items_of items.now) }
+    ensures bytes { OnOk result (out.new.items ≡ out.old.items ++ items_of items.now) }
+    ensures kept { OnOk result (ItemsKept items.now) }
 {
     for i in 0..items.len() {
         let name = i.to_string(alloc)?;
@@ -195,7 +233,8 @@ fn put_element(
     name: &[u8],
     value: &Value,
 ) -> Result<(), AllocError>
-    ensures { OnOk result (out.new.items ≡ out.old.items ++ element (name.now, spelling value.now)) }
+    ensures bytes { OnOk result (out.new.items ≡ out.old.items ++ element (name.now, spelling value.now)) }
+    ensures kept { OnOk result (AllKept value.now) }
 {
     out.push(type_of(value))?;
     out.extend_from_slice(name)?;
@@ -203,11 +242,20 @@ fn put_element(
     put_value(alloc, out, value)
 }
 
-/// The spelling of the document, with array names "0", "1" and so on.
-pub fn encode(alloc: Global, doc: &Doc) -> Result<Bytes, AllocError>
-    ensures { IfOk result (λ bytes. bytes ≡ document_text doc.now) }
+fn whole(alloc: Global, doc: &Doc) -> Result<Bytes, AllocError>
+    ensures bytes { IfOk result (λ bytes. bytes ≡ document_text doc.now) }
+    ensures kept { OnOk result (IsKept doc.now) }
 {
     let mut out = Vec::new(alloc);
     put_document(alloc, &mut out, doc)?;
     Ok(Bytes::from_vec(out))
+}
+
+/// The spelling of the document, with array names "0", "1" and so on. A length is written modulo
+/// 2 ^ 32, so a document of 2 ^ 31 bytes or more isn't read again.
+pub fn encode(alloc: Global, doc: &Doc) -> Result<Bytes, AllocError>
+    ensures bytes { IfOk result (λ bytes. bytes ≡ document_text doc.now) }
+    ensures spells { IfOk result (λ bytes. length bytes < 2 ^ 31 → Spells bytes doc.now) }
+{
+    whole(alloc, doc)
 }

@@ -7,3 +7,4 @@ pub mod Levels
 pub mod Spelling
 pub mod Namespace
 pub mod Size
+pub mod Timestamp

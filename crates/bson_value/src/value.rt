@@ -16,6 +16,19 @@ pub struct Ts {
     pub inc: u32,
 }
 
+impl Ts {
+    ghost use Rattle.bson_value.specs.Timestamp.{stamp_number};
+
+    /// The number that BSON writes for it: the seconds in the high 32 bits, and the ordinal in the low
+    /// ones. Its order is that of timestamps.
+    pub fn as_u64(self) -> u64
+        ensures { result ≡ stamp_number self }
+    {
+        u64::from(self.secs) * 4294967296 + u64::from(self.inc)
+    }
+}
+
+/// A value of BSON.
 #[derive(Drop)]
 pub enum Value {
     Double([u8; 8]),
