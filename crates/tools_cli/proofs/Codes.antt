@@ -83,6 +83,7 @@ says_front m is.Unbuilt i o h = keeps_front o.before.bytes o.after.bytes (shown 
 
 pub told_answers : (m : Meaning) (s : Status) (i o r : Turn) → Says m s i o → Reports s r → Answers m (code_of s) i o r
 told_answers m is.Done i o r h t = record {
+  known = (is.Done, refl);
   done = λ _. (h, t);
   usage = λ e. absurd cc;
   bad_archive = λ e. absurd cc;
@@ -94,6 +95,7 @@ told_answers m is.Done i o r h t = record {
   accepted = due_accepted m _ i o (due_done m i o h);
 }
 told_answers m (is.Usage at) i o r h t = record {
+  known = (is.Usage at, refl);
   done = λ e. absurd cc;
   usage = λ _. (at, h.0, h.1, h.2, t);
   bad_archive = λ e. absurd cc;
@@ -105,6 +107,7 @@ told_answers m (is.Usage at) i o r h t = record {
   accepted = due_accepted m _ i o (due_usage m at i o h.0);
 }
 told_answers m (is.BadArchive f) i o r h t = record {
+  known = (is.BadArchive f, refl);
   done = λ e. absurd cc;
   usage = λ e. absurd cc;
   bad_archive = λ _. (f, h.0, h.1, h.2, t);
@@ -116,6 +119,7 @@ told_answers m (is.BadArchive f) i o r h t = record {
   accepted = due_accepted m _ i o (due_restored m (forms.Bad f) i o h.0 h.1);
 }
 told_answers m is.ReadFault i o r h t = record {
+  known = (is.ReadFault, refl);
   done = λ e. absurd cc;
   usage = λ e. absurd cc;
   bad_archive = λ e. absurd cc;
@@ -127,6 +131,7 @@ told_answers m is.ReadFault i o r h t = record {
   accepted = due_accepted m _ i o (not_due (due_code m i.before.bytes) 9 i o (inl (refl, h.1)));
 }
 told_answers m is.WriteFault i o r h t = record {
+  known = (is.WriteFault, refl);
   done = λ e. absurd cc;
   usage = λ e. absurd cc;
   bad_archive = λ e. absurd cc;
@@ -138,6 +143,7 @@ told_answers m is.WriteFault i o r h t = record {
   accepted = due_accepted m _ i o (not_due (due_code m i.before.bytes) 10 i o (inr (inl (refl, h.0))));
 }
 told_answers m is.NoMemory i o r h t = record {
+  known = (is.NoMemory, refl);
   done = λ e. absurd cc;
   usage = λ e. absurd cc;
   bad_archive = λ e. absurd cc;
@@ -149,6 +155,7 @@ told_answers m is.NoMemory i o r h t = record {
   accepted = due_accepted m _ i o (not_due (due_code m i.before.bytes) 11 i o (inr (inr refl)));
 }
 told_answers m is.Unbuilt i o r h t = record {
+  known = (is.Unbuilt, refl);
   done = λ e. absurd cc;
   usage = λ e. absurd cc;
   bad_archive = λ e. absurd cc;
@@ -162,6 +169,7 @@ told_answers m is.Unbuilt i o r h t = record {
 
 pub out_answers : (m : Meaning) (s : Status) (i o r : Turn) → Says m s i o → RunsOut s r → Answers m 11 i o r
 out_answers m s i o r h t = record {
+  known = (is.NoMemory, refl);
   done = λ e. absurd cc;
   usage = λ e. absurd cc;
   bad_archive = λ e. absurd cc;

@@ -136,6 +136,7 @@ IsDue code input output due = (code ≡ due) ⊎ (((code ≡ 9) × Failed input)
 
 -- The whole call: what the words mean, the status as a number, and the ends.
 pub record Answers (m : Meaning) (code : ℕ) (input output report : Turn) : Type 0 where
+  pub known : (s : Status) × (code ≡ code_of s)
   pub done : code ≡ 0 → OfVerb m (Done input output) × Same report
   pub usage : code ≡ 1 → (at : ℕ) × (m ≡ Err at) × Same input × Same output × Tells report (usage_line at)
   pub bad_archive : code ≡ 3 → (f : ArchiveFault) × Restores m × HasForm (forms.Bad f) input × Same output × Tells report (refusal_line f)
