@@ -74,3 +74,22 @@ pub fn first_fault(end: usize, body: &[u8], left: usize, fault: BsonFault) -> Bs
         None => fault,
     }
 }
+
+#[cfg(test)]
+mod tests {
+    use super::*;
+    use std::test::Fail;
+
+    // Forty null fields whose names fall, and then one of the names again.
+    #[test]
+    fn many_falling_names(rt: HostRuntime) -> Result<(), Fail> {
+        let mut body = Vec::new(rt.alloc());
+        for i in 0..40u8 {
+            body.extend_from_slice(&[10, 100 - i, 0])?;
+        }
+        assert_eq!(rt; first_repeat(body.len(), body.as_slice(), 0), None);
+        body.extend_from_slice(&[10, 80, 0])?;
+        assert_eq!(rt; first_repeat(body.len(), body.as_slice(), 0), Some(121));
+        Ok(())
+    }
+}
