@@ -35,6 +35,11 @@ fn is_above(name: &[u8], top: &[u8]) -> bool
 const FEW: u32 = 32;
 
 /// The first name that stands before it too, by its place, among the elements before the last `left` bytes.
+///
+/// It takes no memory, and some 200 KiB of the stack. Names that rise take one walk. Others are sorted in blocks of
+/// 32,768, and the names behind a block are looked for in it: n log n steps for n names, and n * n / 65,536 short ones,
+/// whatever their order is, which is some seconds for the 2,000,000 names that 16 MiB hold.
+/// A body of more than 4,294,967,295 bytes, as no document has one, is searched name by name.
 pub fn first_repeat(end: usize, body: &[u8], left: usize) -> Option<usize>
     requires { length body.now ≤ end }
     ensures { (ns : List (List ℕ)) → (to : List ℕ) → Path ns body.now to → length to ≡ left → repeat_at end [] ns body.now ≡ result }
