@@ -35,6 +35,11 @@ fn is_above(name: &[u8], top: &[u8]) -> bool
 const FEW: u32 = 32;
 
 /// The first name that stands before it too, by its place, among the elements before the last `left` bytes.
+///
+/// It takes no memory, and some 200 KiB of the stack. Names that rise take one walk. Others are sorted in blocks of
+/// 32,768, and the names behind a block are looked for in it: n log n steps for n names, and n * n / 65,536 short ones,
+/// whatever their order is, which is some seconds for the 2,000,000 names that 16 MiB hold.
+/// A body of more than 4,294,967,295 bytes, as no document has one, is searched name by name.
 pub fn first_repeat(end: usize, body: &[u8], left: usize) -> Option<usize>
     requires { length body.now ≤ end }
     ensures { (ns : List (List ℕ)) → (to : List ℕ) → Path ns body.now to → length to ≡ left → repeat_at end [] ns body.now ≡ result }
@@ -72,5 +77,24 @@ pub fn first_fault(end: usize, body: &[u8], left: usize, fault: BsonFault) -> Bs
             at,
         },
         None => fault,
+    }
+}
+
+#[cfg(test)]
+mod tests {
+    use super::*;
+    use std::test::Fail;
+
+    // Forty null fields whose names fall, and then one of the names again.
+    #[test]
+    fn many_falling_names(rt: HostRuntime) -> Result<(), Fail> {
+        let mut body = Vec::new(rt.alloc());
+        for i in 0..40u8 {
+            body.extend_from_slice(&[10, 100 - i, 0])?;
+        }
+        assert_eq!(rt; first_repeat(body.len(), body.as_slice(), 0), None);
+        body.extend_from_slice(&[10, 80, 0])?;
+        assert_eq!(rt; first_repeat(body.len(), body.as_slice(), 0), Some(121));
+        Ok(())
     }
 }
