@@ -1,0 +1,4 @@
+pub mod Archive
+pub mod Crc
+pub mod Laws
+pub mod Shapes

@@ -1,0 +1,10 @@
+//! The format of archives: their items, the shapes of their documents, and the fault of bytes that are no archive.
+#![tactic(auto)]
+
+mod fault;
+mod laws;
+mod place;
+
+pub use fault::DemuxFault;
+pub use laws::{content_or_fault, crc_by_parts, one_end};
+pub use place::Place;
