@@ -2,6 +2,7 @@
 use Rattle.std.specs.Prelude.{⊤, ℕ, ◌≡◌, ◌+◌, ◌≤◌, List, [], ◌∷◌, ◌++◌, length, take, set, map, flat_map, filter, Bool, true, false, ◌||◌, ◌&&◌, Option, Some, None, Result, Ok, Err, if◌then◌else◌, ◌==◌, nat_lt, slice_get, bytes_eq, is_some}
 use Rattle.std.specs.Int.{w32, w64, from_le_bytes, cast_unsigned}
 use Rattle.std.specs.List.{position_from}
+use Rattle.std.specs.Result.{result_err, result_ok}
 use Rattle.bson_value.specs.declared.namespace.NsName.{NsName}
 use Rattle.bson_value.specs.declared.value.Value.{Value}
 use Rattle.bson_check.specs.declared.fault.BsonFault.{BsonFault}
@@ -80,19 +81,36 @@ seat_of n es = position_from (λ e. same_ns e.ns n) 0 es
 unfoldable pub fields_of : List ℕ → Result (List (List ℕ × Value)) BsonFault
 fields_of b = document_of 16793600 200 b
 
--- a document in the grammar of BSON goes to its step; one that isn't is a fault before any other
-abbrev pub sound : ℕ → (List (List ℕ × Value) → Verdict) → Result (List (List ℕ × Value)) BsonFault → Verdict
-sound at then_step (Ok fs) = then_step fs
-sound at then_step (Err f) = bad (BadBson at f.kind)
+abbrev pub shaped_in : {A : Type 0} → (List (List ℕ × Value) → Shaped A) → Result (List (List ℕ × Value)) BsonFault → Option A
+shaped_in look (Err f) = None
+shaped_in look (Ok fs) = result_ok (look fs)
 
-unfoldable pub header_step : Stage → ℕ → Shaped PreludeHeader → Verdict
-header_step s at (Err f) = bad (BadPrelude at)
-header_step s at (Ok h) = goes (record s { place = Metas }) []
+-- what the parts read of a document of BSON, and nothing where it has another shape
+unfoldable pub header_in : List ℕ → Option PreludeHeader
+header_in b = shaped_in header_of (fields_of b)
+
+unfoldable pub metadata_in : List ℕ → Option Metadata
+metadata_in b = shaped_in meta_of (fields_of b)
+
+unfoldable pub head_in : List ℕ → Option Head
+head_in b = shaped_in ns_head_of (fields_of b)
+
+-- bytes that are no document of BSON are a fault before any other
+unfoldable pub fault_in : List ℕ → Option BsonFault
+fault_in b = result_err (fields_of b)
+
+abbrev pub sound : ℕ → Verdict → Option BsonFault → Verdict
+sound at v None = v
+sound at v (Some f) = bad (BadBson at f.kind)
+
+unfoldable pub header_step : Stage → ℕ → Option PreludeHeader → Verdict
+header_step s at None = bad (BadPrelude at)
+header_step s at (Some h) = goes (record s { place = Metas }) []
 
 -- the metadata of the oplog is passed over
-unfoldable pub meta_step : Stage → ℕ → Shaped Metadata → Verdict
-meta_step s at (Err f) = bad (BadPrelude at)
-meta_step s at (Ok m) = if is_oplog m.ns then goes s [] else (if is_some (meta_place m.ns s.metas) then bad (BadPrelude at) else goes (record s { metas = s.metas ++ m.ns ∷ [] }) (meta m.ns m.text ∷ []))
+unfoldable pub meta_step : Stage → ℕ → Option Metadata → Verdict
+meta_step s at None = bad (BadPrelude at)
+meta_step s at (Some m) = if is_oplog m.ns then goes s [] else (if is_some (meta_place m.ns s.metas) then bad (BadPrelude at) else goes (record s { metas = s.metas ++ m.ns ∷ [] }) (meta m.ns m.text ∷ []))
 
 -- the bits of the checksum that an end says
 abbrev pub said_by : Head → Option ℕ
@@ -109,9 +127,9 @@ abbrev pub opened : Stage → ℕ → Head → Option ℕ → Verdict
 opened s at h None = goes (record { place = behind h (length s.seen); metas = s.metas; seen = s.seen ++ record { ns = h.ns; sum = crc_start; ended = false } ∷ [] }) []
 opened s at h (Some i) = opened_entry s at h i (slice_get s.seen i)
 
-unfoldable pub head_step : Stage → ℕ → Shaped Head → Verdict
-head_step s at (Err f) = bad (BadHeader at)
-head_step s at (Ok h) = opened s at h (seat_of h.ns s.seen)
+unfoldable pub head_step : Stage → ℕ → Option Head → Verdict
+head_step s at None = bad (BadHeader at)
+head_step s at (Some h) = opened s at h (seat_of h.ns s.seen)
 
 -- the entry that a place names is there
 unfoldable pub doc_step : Stage → ℕ → ℕ → List ℕ → Option Seen → Verdict
@@ -137,22 +155,36 @@ step_at Front s at terminator = bad BadMagic
 step_at Front s at (document b) = bad BadMagic
 step_at Header s at magic = bad (BadBson at kinds.Length)
 step_at Header s at terminator = bad (BadPrelude at)
-step_at Header s at (document b) = sound at (λ fs. header_step s at (header_of fs)) (fields_of b)
+step_at Header s at (document b) = sound at (header_step s at (header_in b)) (fault_in b)
 step_at Metas s at magic = bad (BadBson at kinds.Length)
 step_at Metas s at terminator = goes (record s { place = Blocks }) []
-step_at Metas s at (document b) = sound at (λ fs. meta_step s at (meta_of fs)) (fields_of b)
+step_at Metas s at (document b) = sound at (meta_step s at (metadata_in b)) (fault_in b)
 step_at Blocks s at magic = bad (BadBson at kinds.Length)
 step_at Blocks s at terminator = bad (BadHeader at)
-step_at Blocks s at (document b) = sound at (λ fs. head_step s at (ns_head_of fs)) (fields_of b)
+step_at Blocks s at (document b) = sound at (head_step s at (head_in b)) (fault_in b)
 step_at (Inside i) s at magic = bad (BadBson at kinds.Length)
 step_at (Inside i) s at terminator = goes (record s { place = Blocks }) []
-step_at (Inside i) s at (document b) = sound at (λ fs. doc_step s at i b (slice_get s.seen i)) (fields_of b)
+step_at (Inside i) s at (document b) = sound at (doc_step s at i b (slice_get s.seen i)) (fault_in b)
 step_at (Ending i said) s at magic = bad (DocsInEnd at)
 step_at (Ending i said) s at terminator = end_step s at i said (slice_get s.seen i)
 step_at (Ending i said) s at (document b) = bad (DocsInEnd at)
 
 abbrev pub step : Stage → ℕ → Item → Verdict
 step s at item = step_at s.place s at item
+
+-- taking the item takes memory: a document of the prelude, or the first header of a namespace
+abbrev pub IsNew : Stage → Option Head → Type 0
+IsNew s None = ⊥
+IsNew s (Some h) = seat_of h.ns s.seen ≡ None
+
+abbrev pub Asks_at : Place → Stage → Item → Type 0
+Asks_at Header s (document b) = ⊤
+Asks_at Metas s (document b) = ⊤
+Asks_at Blocks s (document b) = IsNew s (head_in b)
+Asks_at p s i = ⊥
+
+abbrev pub Asks : Stage → Item → Type 0
+Asks s i = Asks_at s.place s i
 
 -- whole items take the grammar from one stage to another, and hand out these takings
 abbrev pub Runs : Stage → ℕ → List Item → Stage → List Taking → Type 0
