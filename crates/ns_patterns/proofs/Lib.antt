@@ -1,3 +1,4 @@
 pub mod Search
 pub mod Leftmost
 pub mod Takes
+pub mod Renaming

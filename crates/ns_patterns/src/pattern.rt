@@ -1,10 +1,10 @@
 //! Patterns of names.
-ghost use Rattle.std.specs.Prelude.{◌≡◌, List, ℕ, length, IsTrue, ◌↔◌, ◌++◌, ◌∷◌, MatchOption, IfOk, IfSome, IfNone, Some, None};
+ghost use Rattle.std.specs.Prelude.{◌≡◌, ◌≢◌, List, ℕ, length, IsTrue, ◌↔◌, ◌++◌, ◌∷◌, MatchOption, IfOk, IfSome, IfNone, Some, None};
 ghost use Rattle.bson_value.specs.Namespace.{dot};
 ghost use Rattle.ns_patterns.specs.Literals.{Literals, literals_of};
 ghost use Rattle.ns_patterns.specs.Matches.{Matches, Renamed};
 ghost use Rattle.ns_patterns.specs.Reading.{Gives};
-ghost use Rattle.ns_patterns.specs.Search.{whole};
+ghost use Rattle.ns_patterns.specs.Search.{whole, IsCut, IsUncut};
 
 use crate::joined::Joined;
 use bson_core::{List, NsName, Text};
@@ -43,6 +43,32 @@ impl Model for Pattern {
 }
 
 impl Pattern {
+    /// The pattern of a text, where `*` is a star, and `\` takes the next character as it stands.
+    pub fn read(alloc: Global, text: &str) -> Result<Pattern, PatternFault>
+        ensures { Gives result (literals_of text.now) }
+    {
+        let mut behind = List::new(alloc);
+        let mut literal = Text::new(alloc);
+        let mut escaped = false;
+        let mut chars = text.chars();
+        'chars: while let Some(c) = chars.next() {
+            if c == '*' && !escaped {
+                behind.push(mem::replace(&mut literal, Text::new(alloc)))?;
+            } else if c == '\\' && !escaped {
+                escaped = true;
+            } else {
+                literal.push(c)?;
+                escaped = false;
+            }
+        }
+        if escaped {
+            return Err(PatternFault::LoneEscape);
+        }
+        behind.push(literal)?;
+        let first = behind.remove(0);
+        Ok(Pattern { first, behind })
+    }
+
     /// The number of stars.
     pub fn stars(&self) -> usize
         ensures { result ≡ length self.now.behind }
@@ -90,5 +116,46 @@ impl Pattern {
             }
         }
         rest.ends_with(last.as_str().as_bytes())
+    }
+
+    /// The name that `to` makes with the texts that the stars of `from` stand for in this name. These
+    /// are the shortest ones, the first star first. `None` comes exactly where `from` doesn't take the name.
+    pub fn rename(alloc: Global, from: &Pattern, to: &Pattern, name: &str) -> Result<Option<Text>, AllocError>
+        requires { length from.now.behind ≡ length to.now.behind }
+        ensures some { IfOk result (λ o. IfSome o (λ new. Renamed from.now to.now name.now new)) }
+        ensures none { IfOk result (λ o. IfNone o (Matches from.now name.now → ⊥)) }
+    {
+        let Some(mut rest) = behind_prefix(name, from.first.as_str()) else {
+            return Ok(None);
+        };
+        let (literals, stars) = (from.behind.as_slice(), from.stars());
+        let mut new = to.first.copy(alloc)?;
+        'stars: for i in 0..stars {
+            let Some((text, after)) = cut(rest, literals[i].as_str(), i + 1 == stars) else {
+                return Ok(None);
+            };
+            new.push_str(text)?;
+            new.push_str(to.behind.as_slice()[i].as_str())?;
+            rest = after;
+        }
+        Ok(if rest.is_empty() { Some(new) } else { None })
+    }
+}
+
+// What follows this text, where it stands first.
+fn behind_prefix<'a>(name: &'a str, text: &str) -> Option<&'a str>
+    ensures { MatchOption result ((rest : List ℕ) → name.now ≢ text.now ++ rest) (λ rest. name.now ≡ text.now ++ rest.now) }
+{
+    name.strip_prefix(text)
+}
+
+// The text of a star, which stands before the literal behind it, and what follows that literal.
+fn cut<'a>(rest: &'a str, literal: &str, is_last: bool) -> Option<(&'a str, &'a str)>
+    ensures { MatchOption result (IsUncut is_last literal.now rest.now) (λ x. IsCut is_last literal.now rest.now x.0.now x.1.now) }
+{
+    if is_last {
+        Some((rest.strip_suffix(literal)?, ""))
+    } else {
+        rest.split_once(literal)
     }
 }
