@@ -21,12 +21,6 @@ pub enum PatternFault {
     NoMemory,
 }
 
-impl From<AllocError> for PatternFault {
-    fn from(_: AllocError) -> PatternFault {
-        PatternFault::NoMemory
-    }
-}
-
 /// A pattern: literals, with a star between each two of them. Contracts see it as its literals.
 #[derive(Debug, Drop)]
 pub struct Pattern {
@@ -47,26 +41,39 @@ impl Pattern {
     pub fn read(alloc: Global, text: &str) -> Result<Pattern, PatternFault>
         ensures { Gives result (literals_of text.now) }
     {
+        match Pattern::parse(alloc, text) {
+            Ok(Some(pattern)) => Ok(pattern),
+            Ok(None) => Err(PatternFault::LoneEscape),
+            Err(_) => Err(PatternFault::NoMemory),
+        }
+    }
+
+    // `None` where a backslash stands last.
+    fn parse(alloc: Global, text: &str) -> Result<Option<Pattern>, AllocError>
+        ensures { IfOk result (λ o. o ≡ literals_of text.now) }
+    {
         let mut behind = List::new(alloc);
         let mut literal = Text::new(alloc);
         let mut escaped = false;
         let mut chars = text.chars();
         'chars: while let Some(c) = chars.next() {
-            if c == '*' && !escaped {
+            if escaped {
+                literal.push(c)?;
+                escaped = false;
+            } else if c == '*' {
                 behind.push(mem::replace(&mut literal, Text::new(alloc)))?;
-            } else if c == '\\' && !escaped {
+            } else if c == '\\' {
                 escaped = true;
             } else {
                 literal.push(c)?;
-                escaped = false;
             }
         }
         if escaped {
-            return Err(PatternFault::LoneEscape);
+            return Ok(None);
         }
         behind.push(literal)?;
         let first = behind.remove(0);
-        Ok(Pattern { first, behind })
+        Ok(Some(Pattern { first, behind }))
     }
 
     /// The number of stars.
