@@ -55,6 +55,7 @@ leftmost l bytes t after ls wide at = (λ f. go f.texts f.fills, back) where
       let m = leaves l bytes t after u (filled_behind ls us) at s.makes in
       let rest : Filled ls (filled_behind ls us) = record { texts = us; fills = record { one_each = omega (arith, s.one_each); makes = refl } } in
       subst (λ (b : List ℕ). Filled ls b) (sym m.is) (wide m.more _ rest)
+
   back : Filled ls after → Filled (l ∷ ls) bytes
   back f = record { texts = t ∷ f.texts; fills = record { one_each = ap suc f.fills.one_each; makes = at.here ∙ ap (λ (b : List ℕ). t ++ (l ++ b)) f.fills.makes } }
 
@@ -63,6 +64,7 @@ pub last_filled : (last bytes : List ℕ) → ((t : List ℕ) × (bytes ≡ t ++
 last_filled last bytes = (to, λ f. back f.texts f.fills) where
   to : ((t : List ℕ) × (bytes ≡ t ++ last)) → Filled (last ∷ []) bytes
   to h = record { texts = h.0 ∷ []; fills = record { one_each = refl; makes = h.1 ∙ ap (λ (b : List ℕ). h.0 ++ b) (sym (append-nil last)) } }
+
   back : (ts : List (List ℕ)) → Fills (last ∷ []) bytes ts → (t : List ℕ) × (bytes ≡ t ++ last)
   back [] s = absurd (omega (arith, s.one_each))
   back (t ∷ ts) s = (t, s.makes ∙ ap (λ (b : List ℕ). t ++ b) (append-nil last))
@@ -104,6 +106,7 @@ shortest_first l bytes t after ls ts at s = record {
     as_long : (more : List ℕ) → after ≡ more ++ filled_behind ls us → length u ≡ length t + length more → NoLonger (t ∷ ts) (u ∷ us)
     as_long [] is e = inr (omega (arith, e), s.least us (record { one_each = omega (arith, f.one_each); makes = is }))
     as_long (x ∷ more) is e = inl (omega (arith, e))
+
     go : Leaves t u after (filled_behind ls us) → NoLonger (t ∷ ts) (u ∷ us)
     go m = as_long m.more m.is m.shorter
 

@@ -121,6 +121,6 @@ pub all_of : (total : Option Literals) (done : List (List ℕ)) (l rest : List �
 unfolding literals_from
 all_of total done l rest all first behind h e a f b =
     h ∙ (ap (λ (x : List ℕ). option_map (joined done l) (literals_from false x)) (empty rest e) ∙ go done (ap (λ (x : List (List ℕ)). slice_get x 0) (sym a) ∙ f) (b ∙ ap (λ (x : List (List ℕ)). drop 1 x) a)) where
-  go : (done : List (List ℕ)) → slice_get (done ++ l ∷ []) 0 ≡ Some first → behind ≡ drop 1 (done ++ l ∷ []) → Some (joined done l (record { first = []; behind = [] })) ≡ Some (record { first = first; behind = behind })
-  go [] f b = let is : first ≡ l = cc in rw (is, b) (ap (λ (x : List ℕ). Some (record { first = x; behind = [] })) (append-nil l))
-  go (d ∷ ds) f b = let is : first ≡ d = cc in rw (is, b) (ap (λ (x : List ℕ). Some (record { first = d; behind = ds ++ x ∷ [] })) (append-nil l))
+      go : (done : List (List ℕ)) → slice_get (done ++ l ∷ []) 0 ≡ Some first → behind ≡ drop 1 (done ++ l ∷ []) → Some (joined done l (record { first = []; behind = [] })) ≡ Some (record { first = first; behind = behind })
+      go [] f b = let is : first ≡ l = cc in rw (is, b) (ap (λ (x : List ℕ). Some (record { first = x; behind = [] })) (append-nil l))
+      go (d ∷ ds) f b = let is : first ≡ d = cc in rw (is, b) (ap (λ (x : List ℕ). Some (record { first = d; behind = ds ++ x ∷ [] })) (append-nil l))

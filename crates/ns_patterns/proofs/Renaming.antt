@@ -22,9 +22,9 @@ split_found l s f b h =
       first = λ u more e. go u more e (cases_lt (length u) i);
     }
   where
-  go : (u more : List ℕ) → s ≡ u ++ (l ++ more) → (length u < h.0) ⊎ (h.0 ≤ length u) → length f ≤ length u
-  go u more e (inl lt) = absurd (h.2.0 (length u) lt more (ap (drop (length u)) e ∙ drop_at u (l ++ more) (length u) refl))
-  go u more e (inr le) = omega (arith, le, h.6)
+    go : (u more : List ℕ) → s ≡ u ++ (l ++ more) → (length u < h.0) ⊎ (h.0 ≤ length u) → length f ≤ length u
+    go u more e (inl lt) = absurd (h.2.0 (length u) lt more (ap (drop (length u)) e ∙ drop_at u (l ++ more) (length u) refl))
+    go u more e (inr le) = omega (arith, le, h.6)
 
 split_none : (l s : List ℕ) → FindsText l s None → (t r : List ℕ) → s ≢ t ++ (l ++ r)
 split_none l s none t r e =
@@ -127,11 +127,11 @@ pub stopped : (from to : Literals) (name new rest : List ℕ) (i : ℕ) → Goin
     → (l text : List ℕ) → l ≡ get_or slice i l → text ≡ l → i < stars → IsUncut (i + 1 == stars) text rest → Matches from name → ⊥
 stopped from to name new rest i g seen view slice is stars count l text item said within uncut m =
     going_stops from to name new rest i g l (omega (arith, within, count)) (literal_is from seen slice l i view is item)
-        (subst (λ (n : ℕ). IsUncut (i + 1 == n) l rest) count (subst (λ (x : List ℕ). IsUncut (i + 1 == stars) x rest) said uncut)) m
+    (subst (λ (n : ℕ). IsUncut (i + 1 == n) l rest) count (subst (λ (x : List ℕ). IsUncut (i + 1 == stars) x rest) said uncut)) m
 
 pub gone_on : (from to : Literals) (name new rest : List ℕ) (i : ℕ) → Going from to name new rest i → (seen : Literals) → seen ≡ from → (slice : List (List ℕ)) → slice ≡ seen.behind → (stars : ℕ) → stars ≡ length from.behind
     → (l text : List ℕ) → l ≡ get_or slice i l → text ≡ l → i < stars → (t after : List ℕ) → IsCut (i + 1 == stars) text rest t after
     → (seen_to : Literals) → seen_to ≡ to → (slice_to : List (List ℕ)) → slice_to ≡ seen_to.behind → (m : List ℕ) → m ≡ get_or slice_to i m → length from.behind ≡ length to.behind → (more : List ℕ) → more ≡ (new ++ t) ++ m → Going from to name more after (i + 1)
 gone_on from to name new rest i g seen view slice is stars count l text item said within t after cut seen_to view_to slice_to is_to m item_to same more pushed =
     going_on from to name new rest i g l (omega (arith, within, count)) (literal_is from seen slice l i view is item) t after m more
-        (subst (λ (n : ℕ). IsCut (i + 1 == n) l rest t after) count (subst (λ (x : List ℕ). IsCut (i + 1 == stars) x rest t after) said cut)) same (literal_is to seen_to slice_to m i view_to is_to item_to) pushed
+    (subst (λ (n : ℕ). IsCut (i + 1 == n) l rest t after) count (subst (λ (x : List ℕ). IsCut (i + 1 == stars) x rest t after) said cut)) same (literal_is to seen_to slice_to m i view_to is_to item_to) pushed

@@ -37,9 +37,9 @@ here : (P : List ℕ → Type 0) (bytes rest : List ℕ) (p : Passed P bytes res
 here P bytes rest p u v e l is =
     let o = overlap u p.front v rest (sym e ∙ p.parts) l in
     go o.between o.longer o.rest (p.none u v e is) where
-  go : (x : List ℕ) → p.front ≡ u ++ x → v ≡ x ++ rest → length p.front ≤ length u → P rest
-  go [] long is_rest short = subst P is_rest is
-  go (b ∷ x) long is_rest short = absurd (omega (arith, ap length long, length-append u (b ∷ x)))
+      go : (x : List ℕ) → p.front ≡ u ++ x → v ≡ x ++ rest → length p.front ≤ length u → P rest
+      go [] long is_rest short = subst P is_rest is
+      go (b ∷ x) long is_rest short = absurd (omega (arith, ap length long, length-append u (b ∷ x)))
 
 pub one_on : (P : List ℕ → Type 0) (bytes rest : List ℕ) (b : ℕ) (next : List ℕ) → Passed P bytes rest → (P rest → ⊥) → rest ≡ b ∷ next → Passed P bytes next
 one_on P bytes rest b next p missing is = record {

@@ -22,7 +22,7 @@ pub goes_on : (P : Type 0) (inner : List (List ℕ)) (last l text bytes t after 
 goes_on P inner last l text bytes t after i h within item is at =
     let next : suc i ≡ i + 1 = omega arith in
     both_ways (subst (λ (ls : List (List ℕ)). P ↔ Filled (ls ++ last ∷ []) bytes) (drop_first i inner l within item ∙ ap (λ (n : ℕ). l ∷ drop n inner) next) h)
-        (leftmost l bytes t after (drop (i + 1) inner ++ last ∷ []) (widened_all (drop (i + 1) inner) last) (subst (λ (x : List ℕ). IsFirst x bytes t after) is at))
+    (leftmost l bytes t after (drop (i + 1) inner ++ last ∷ []) (widened_all (drop (i + 1) inner) last) (subst (λ (x : List ℕ). IsFirst x bytes t after) is at))
 
 pub ends : (P : Type 0) (r : Bool) (inner : List (List ℕ)) (last text bytes : List ℕ) (i : ℕ) → (P ↔ Filled (drop i inner ++ last ∷ []) bytes) → length inner ≤ i → text ≡ last → (IsTrue r ↔ ((t : List ℕ) × (bytes ≡ t ++ text))) → IsTrue r ↔ P
 ends P r inner last text bytes i h over is e =

@@ -3,5 +3,7 @@
 
 mod joined;
 mod pattern;
+#[cfg(test)]
+mod tests;
 
 pub use pattern::{Pattern, PatternFault};

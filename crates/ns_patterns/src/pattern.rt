@@ -127,7 +127,12 @@ impl Pattern {
 
     /// The name that `to` makes with the texts that the stars of `from` stand for in this name. These
     /// are the shortest ones, the first star first. `None` comes exactly where `from` doesn't take the name.
-    pub fn rename(alloc: Global, from: &Pattern, to: &Pattern, name: &str) -> Result<Option<Text>, AllocError>
+    pub fn rename(
+        alloc: Global,
+        from: &Pattern,
+        to: &Pattern,
+        name: &str,
+    ) -> Result<Option<Text>, AllocError>
         requires { length from.now.behind ≡ length to.now.behind }
         ensures some { IfOk result (λ o. IfSome o (λ new. Renamed from.now to.now name.now new)) }
         ensures none { IfOk result (λ o. IfNone o (Matches from.now name.now → ⊥)) }

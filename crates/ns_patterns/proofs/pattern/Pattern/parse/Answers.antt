@@ -13,8 +13,8 @@ pub chars-preserved-in-Continue-branch-2 : goal.chars-preserved-in-Continue-bran
 chars-preserved-in-Continue-branch-2 c =
     let plain = subst (λ (b : Bool). Left (literals_of c.args.text.now) c.chars.behind c.chars.literal (literals_from b (chars_rest c.chars.chars))) c.if-escaped.false c.chars.invariant in
     subst (λ (b : Bool). Left (literals_of c.args.text.now) c.push-then-c-eq42.new.self c.replace.new.dest (literals_from b (chars_rest c.next.new.self))) (sym c.if-escaped.false)
-        (after_star (literals_of c.args.text.now) c.chars.behind c.chars.literal c.in-Some.c _ _ c.push-then-c-eq42.new.self c.replace.new.dest plain c.if-c-eq42.true c.in-Some.ensures.steps.0
-            (c.in_ok-push-2.ensures.ok ∙ ap (λ (l : List ℕ). c.chars.behind ++ l ∷ []) c.replace.ensures.value) (c.replace.ensures.after ∙ c.new.ensures))
+    (after_star (literals_of c.args.text.now) c.chars.behind c.chars.literal c.in-Some.c _ _ c.push-then-c-eq42.new.self c.replace.new.dest plain c.if-c-eq42.true c.in-Some.ensures.steps.0
+    (c.in_ok-push-2.ensures.ok ∙ ap (λ (l : List ℕ). c.chars.behind ++ l ∷ []) c.replace.ensures.value) (c.replace.ensures.after ∙ c.new.ensures))
 
 pub chars-preserved-then-c-eq92 : goal.chars-preserved-then-c-eq92
 chars-preserved-then-c-eq92 c =
@@ -25,7 +25,7 @@ pub chars-preserved : goal.chars-preserved
 chars-preserved c =
     let plain = subst (λ (b : Bool). Left (literals_of c.args.text.now) c.chars.behind c.chars.literal (literals_from b (chars_rest c.chars.chars))) c.if-escaped.false c.chars.invariant in
     subst (λ (b : Bool). Left (literals_of c.args.text.now) c.chars.behind c.push-else-c-eq92.new.self (literals_from b (chars_rest c.next.new.self))) (sym c.if-escaped.false)
-        (after_char (literals_of c.args.text.now) c.chars.behind c.chars.literal c.in-Some.c _ _ c.push-else-c-eq92.new.self plain c.if-c-eq42.false c.if-c-eq92.false c.in-Some.ensures.steps.0 c.in_ok-push-3.ensures.ok)
+    (after_char (literals_of c.args.text.now) c.chars.behind c.chars.literal c.in-Some.c _ _ c.push-else-c-eq92.new.self plain c.if-c-eq42.false c.if-c-eq92.false c.in-Some.ensures.steps.0 c.in_ok-push-3.ensures.ok)
 
 pub returns-then-escaped-2 : goal.returns-then-escaped-2
 returns-then-escaped-2 c =

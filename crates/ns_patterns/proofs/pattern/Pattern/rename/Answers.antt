@@ -11,12 +11,13 @@ stars-init c =
 pub returns-in_default-cut-clause-none : goal.returns-in_default-cut-clause-none
 returns-in_default-cut-clause-none c =
     stopped c.args.from.now c.args.to.now c.args.name.now _ _ c.stars.i c.stars.invariant.1 _ c.from.view_is _ c.as_slice-literals.ensures _ c.stars-stars.ensures
-        c.index-literals-i.result _ c.index-literals-i.is c.as_str-in-stars.ensures c.stars-test.true c.in_default-cut.ensures
+    c.index-literals-i.result _ c.index-literals-i.is c.as_str-in-stars.ensures c.stars-test.true c.in_default-cut.ensures
 
 pub stars-preserved : goal.stars-preserved
-stars-preserved c =
-    (search rules,
-    gone_on c.args.from.now c.args.to.now c.args.name.now _ _ c.stars.i c.stars.invariant.1 _ c.from.view_is _ c.as_slice-literals.ensures _ c.stars-stars.ensures
-        c.index-literals-i.result _ c.index-literals-i.is c.as_str-in-stars.ensures c.stars-test.true c.in-Some-cut.text.now c.in-Some-cut.after.now c.in-Some-cut.ensures
-        _ c.to.view_is _ c.as_slice.ensures c.index-as_slice-i.result c.index-as_slice-i.is c.requires c.push_str-in-stars.new.self
-        (c.in_ok-push_str-2.ensures.ok ∙ (ap (λ (x : List ℕ). x ++ c.as_str-in-stars-2.result.now) c.in_ok-push_str.ensures.ok ∙ ap (λ (x : List ℕ). (c.stars.new ++ c.in-Some-cut.text.now) ++ x) c.as_str-in-stars-2.ensures)))
+stars-preserved c = (
+  search rules,
+  gone_on c.args.from.now c.args.to.now c.args.name.now _ _ c.stars.i c.stars.invariant.1 _ c.from.view_is _ c.as_slice-literals.ensures _ c.stars-stars.ensures
+      c.index-literals-i.result _ c.index-literals-i.is c.as_str-in-stars.ensures c.stars-test.true c.in-Some-cut.text.now c.in-Some-cut.after.now c.in-Some-cut.ensures
+      _ c.to.view_is _ c.as_slice.ensures c.index-as_slice-i.result c.index-as_slice-i.is c.requires c.push_str-in-stars.new.self
+      (c.in_ok-push_str-2.ensures.ok ∙ (ap (λ (x : List ℕ). x ++ c.as_str-in-stars-2.result.now) c.in_ok-push_str.ensures.ok ∙ ap (λ (x : List ℕ). (c.stars.new ++ c.in-Some-cut.text.now) ++ x) c.as_str-in-stars-2.ensures)),
+)
