@@ -1,0 +1,4 @@
+pub mod Depth
+pub mod Loop
+pub mod Skips
+pub mod Texts

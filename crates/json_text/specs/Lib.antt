@@ -1,0 +1,3 @@
+pub mod formers
+pub mod Reading
+pub mod Pieces

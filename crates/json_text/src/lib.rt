@@ -1,0 +1,15 @@
+//! JSON in the order of its text: values, reading, printing.
+#![tactic(auto)]
+
+mod copy;
+mod fault;
+mod members;
+mod reading;
+mod tokens;
+mod tree;
+
+pub use containers::{List as JList, Text as JText};
+pub use fault::JsonFault;
+pub use members::Members;
+pub use reading::parse;
+pub use tree::{Fields, Tree};
