@@ -2,3 +2,4 @@ pub mod Depth
 pub mod Loop
 pub mod Skips
 pub mod Texts
+pub mod Printed

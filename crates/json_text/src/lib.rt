@@ -4,6 +4,7 @@
 mod copy;
 mod fault;
 mod members;
+mod printing;
 mod reading;
 mod tokens;
 mod tree;
@@ -11,5 +12,6 @@ mod tree;
 pub use containers::{List as JList, Text as JText};
 pub use fault::JsonFault;
 pub use members::Members;
+pub use printing::print;
 pub use reading::parse;
 pub use tree::{Fields, Tree};
