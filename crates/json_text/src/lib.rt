@@ -6,6 +6,8 @@ mod fault;
 mod members;
 mod printing;
 mod reading;
+#[cfg(test)]
+mod tests;
 mod tokens;
 mod tree;
 
