@@ -53,7 +53,7 @@ const BAD: &str = r#"
 1 <[,1]> a comma first
 2 <[1}> another bracket
 1 <{1:2}> a name that is no string
-4 <{"a" 1}> no colon
+5 <{"a" 1}> no colon
 5 <{"a"=1}> another sign than a colon
 7 <{"a":1,}> a comma before the end of an object
 7 <{"a":1,"a":2}> a repeated name
