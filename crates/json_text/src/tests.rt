@@ -54,7 +54,7 @@ const BAD: &str = r#"
 2 <[1}> another bracket
 1 <{1:2}> a name that is no string
 5 <{"a" 1}> no colon
-5 <{"a"=1}> another sign than a colon
+4 <{"a"=1}> another sign than a colon
 7 <{"a":1,}> a comma before the end of an object
 7 <{"a":1,"a":2}> a repeated name
 7 <{"a":1,"a"x> a repeated name before a missing colon
