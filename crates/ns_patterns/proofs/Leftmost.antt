@@ -1,8 +1,8 @@
 -- Each literal but the last is taken at its leftmost place: that leaves the most for those behind it.
-use Rattle.std.proofs.Common.{◌≡◌, ◌≢◌, ℕ, suc, ◌+◌, List, [], ◌∷◌, ◌++◌, ◌<◌, ◌⊎◌, inl, inr, ◌↔◌, length, refl, sym, ap, ◌∙◌, subst, append_assoc, arith, length-append}
+use Rattle.std.proofs.Common.{◌≡◌, ◌≢◌, ℕ, suc, ◌+◌, List, [], ◌∷◌, ◌++◌, inl, inr, ◌↔◌, length, refl, sym, ap, ◌∙◌, subst, append_assoc, arith, length-append}
 use Rattle.std.proofs.lemmas.List.{append_cancel_left, append-nil}
 use Rattle.ns_patterns.specs.Literals.{Literals}
-use Rattle.ns_patterns.specs.Matches.{filled_behind, filled, IsMatch, Matches, NoLonger, IsShortest}
+use Rattle.ns_patterns.specs.Matches.{filled_behind, Matches, NoLonger, IsShortest}
 use Rattle.ns_patterns.specs.Search.{IsFirst}
 use Rattle.ns_patterns.proofs.Search.{overlap}
 

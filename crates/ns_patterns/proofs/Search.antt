@@ -1,5 +1,5 @@
 -- Going through bytes from the left, until something stands there.
-use Rattle.std.proofs.Common.{◌≡◌, ◌≢◌, ℕ, zero, suc, ◌+◌, ◌<◌, ◌≤◌, List, [], ◌∷◌, ◌++◌, ◌⊎◌, inl, inr, length, take, drop, refl, sym, ap, ◌∙◌, subst, append_assoc, slice_index, arith, length-append}
+use Rattle.std.proofs.Common.{◌≡◌, ◌≢◌, ℕ, zero, suc, ◌<◌, ◌≤◌, List, [], ◌∷◌, ◌++◌, ◌⊎◌, inl, inr, length, take, drop, refl, sym, ap, ◌∙◌, subst, append_assoc, slice_index, arith, length-append}
 use Rattle.std.proofs.lemmas.List.{append_cancel_left, append-nil, take-append-drop, length-drop}
 use Rattle.std.proofs.lemmas.Bool.{cases_lt}
 use Rattle.ns_patterns.specs.Search.{IsFirst}

@@ -1,4 +1,4 @@
-use Rattle.std.proofs.Common.{◌≡◌, ◌++◌, length}
+use Rattle.std.proofs.Common.{length}
 use Rattle.ns_patterns.specs.Search.{whole}
 use Rattle.ns_patterns.proofs.Search.{Passed, Begins}
 use Rattle.ns_patterns.proofs.joined.Joined.behind_first.Given as goal

@@ -1,4 +1,4 @@
-use Rattle.std.proofs.Common.{◌≡◌, ◌++◌, length}
+use Rattle.std.proofs.Common.{◌≡◌, length}
 use Rattle.ns_patterns.specs.Search.{whole}
 use Rattle.ns_patterns.proofs.Search.{Passed}
 use Rattle.ns_patterns.proofs.joined.Joined.ends_with.Given as goal

@@ -1,4 +1,4 @@
-use Rattle.std.proofs.Common.{rules, ap, sym, ◌∙◌, ◌++◌, List, ℕ}
+use Rattle.std.proofs.Common.{rules, ap, ◌∙◌, ◌++◌, List, ℕ}
 use Rattle.ns_patterns.specs.Literals.{Literals}
 use Rattle.ns_patterns.proofs.Renaming.{going_begins, gone_on, stopped}
 use Rattle.ns_patterns.proofs.pattern.Pattern.rename.Goals as goal
