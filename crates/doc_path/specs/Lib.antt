@@ -1,0 +1,4 @@
+pub mod Touch
+pub mod Agree
+pub mod Played
+pub mod Laws

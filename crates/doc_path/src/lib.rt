@@ -1,0 +1,14 @@
+//! Places in documents, what touches do at them, and when two documents agree for a list of touches.
+#![tactic(auto)]
+
+mod laws;
+mod parts;
+mod touches;
+
+pub use laws::{
+    agreed_for_no_touches, agrees_with_itself, any_order_records, changes_what_it_covers,
+    covers_all_below, differences_are_covered, more_touches_agree, playing_keeps_agreement,
+    record_heals, record_law,
+};
+pub use parts::{Change, Form, Part};
+pub use touches::{Place, Touch};
