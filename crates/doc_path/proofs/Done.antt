@@ -42,7 +42,7 @@ pub unset_same : (f : Form) (p : Part) (v : Value) → UnsetDone f p v → unset
 unset_same f p v h = unset_on f p v h.0 ∙ del_same v (key_of p) h.1 h.2
 
 pub resize_same : (n : ℕ) (v : Value) → ResizeDone n v → resize_here n v ≡ v
-resize_same n v h = resize_on n v h.1 h.0 h.2 ∙ (ap (λ (l : List Value). roll-Value (Value-F.Array l)) (sized_same n h.1 h.3) ∙ sym (rolled_array v h.1 h.2))
+resize_same n v h = resize_on n v h.1 h.2 ∙ (ap (λ (l : List Value). roll-Value (Value-F.Array l)) (sized_same n h.1 h.3) ∙ sym (rolled_array v h.1 h.2))
 
 pub done_same : (f : Form) (t : Touch) (v : Value) → Done f t v → play f t v ≡ v
 done_same f (Set ps p a) v h = walk_same f (made f) ps (set_last f p a) (SetDone f p a) (set_same f p a) v h

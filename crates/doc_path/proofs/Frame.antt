@@ -53,7 +53,7 @@ sized_keeps n is c (k ∷ q) m = arrays_at (sized n is) is k q (sized_kept n is 
 
 pub resize_keeps : (n : ℕ) → Keeps (resize_here n) (from_index n) (ResizeFits n)
 resize_keeps n w fits q m =
-    rw (resize_on n w fits.1 fits.0 fits.2) (subst (λ (z : Value). look (Some (roll-Value (Value-F.Array (sized n fits.1)))) q ≡ look (Some z) q) (sym (rolled_array w fits.1 fits.2)) (sized_keeps n fits.1 fits.3 q m))
+    rw (resize_on n w fits.1 fits.2) (subst (λ (z : Value). look (Some (roll-Value (Value-F.Array (sized n fits.1)))) q ≡ look (Some z) q) (sym (rolled_array w fits.1 fits.2)) (sized_keeps n fits.1 fits.3 q m))
 
 pub step_keeps : (f : Form) (p : Part) (w b cw : Value) → takes f p (shape w) ≡ true → child w (key_of p) ≡ Some cw →
     (c : Place → Bool) → ((q : Place) → c q ≡ false → look (Some b) q ≡ look (Some cw) q) →

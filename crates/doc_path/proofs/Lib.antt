@@ -5,3 +5,7 @@ pub mod Done
 pub mod Order
 pub mod PlayedLaws
 pub mod Agreement
+pub mod Places
+pub mod Indexes
+pub mod Decimals
+pub mod Steps

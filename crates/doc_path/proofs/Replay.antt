@@ -1,7 +1,7 @@
 -- One touch played on two values: where they differed at covered places alone, they still do.
 use Rattle.std.proofs.Common.{◌≡◌, ◌≢◌, ℕ, ◌<◌, ◌≤◌, List, [], ◌∷◌, length, ◌++◌, Bool, true, false, refl, sym, ap, ◌∙◌, subst, arith, Option, Some, None}
 use Rattle.std.proofs.Common.{inl, inr}
-use Rattle.std.specs.Prelude.{nat_lt, ◌⊎◌}
+use Rattle.std.specs.Prelude.{◌⊎◌}
 use Rattle.std.proofs.lemmas.Bool.{cases_Bool}
 use Rattle.std.proofs.lemmas.Grind.{common_steps}
 use Rattle.std.specs.Str.{bytes_eq}
@@ -10,7 +10,7 @@ use Rattle.bson_value.specs.Digits.{index_of}
 use Rattle.bson_value.specs.Place.{Place, Shape, a_leaf, an_array, an_object, a_code, shape, nth, at_index, shape_in, child_in, child, look, put, del, sized}
 use Rattle.bson_value.proofs.Digits.{index_of-digits}
 use Rattle.bson_value.proofs.Child.{same_name, name_refl, child-put_ne, shape-put, shape-del, behind, behind_at, index_behind, within_reach, put_object, put_array, del_object, del_else, nth-within, nth-sized, nth-sized_beyond, shape_array, child_array, rolled_array, array_shape, an_array_too}
-use Rattle.doc_path.specs.Touch.{Part, name, index, key_of, Form, V1, V2, Touch, Set, Unset, Resize, limit, takes, or_else, walk, set_last, unset_last, resize_here, made, play, below, from_key, from_index, from_at, small, ReachIn, covers, Way, InReach, SetFits, UnsetFits, ResizeFits, Fits}
+use Rattle.doc_path.specs.Touch.{Part, name, index, key_of, Form, V1, V2, Touch, Set, Unset, Resize, takes, or_else, walk, set_last, unset_last, resize_here, made, play, below, from_key, from_index, from_at, small, ReachIn, covers, Way, InReach, SetFits, UnsetFits, ResizeFits, Fits}
 
 -- what covers a place covers all that is below it
 abbrev pub Mono : (Place → Bool) → Type 0
@@ -295,11 +295,9 @@ arrays_agree n d is js mono c same (k ∷ q) m =
     arrays_at (sized n is) (sized n js) k q
     (sized_at n d is js k (index_of k) q mono c (λ e r h. at_arrays is js k r (same (k ∷ r) e h)) m (cases_Bool (from_at n (index_of k))))
 
-pub resize_on : (n : ℕ) (v : Value) (is : List Value) → n < limit → out-Value v ≡ Value-F.Array is → resize_here n v ≡ roll-Value (Value-F.Array (sized n is))
+pub resize_on : (n : ℕ) (v : Value) (is : List Value) → out-Value v ≡ Value-F.Array is → resize_here n v ≡ roll-Value (Value-F.Array (sized n is))
 unfolding resize_here
-resize_on n v is l e =
-    let t : nat_lt n limit ≡ true = grind (arith, common_steps) in
-    rw (e, t) refl
+resize_on n v is e = rw e refl
 
 pub same_arrays : (c d : Place → Bool) (v w : Value) (is js : List Value) → out-Value v ≡ Value-F.Array is → out-Value w ≡ Value-F.Array js → SameOff c d (Some v) (Some w) → SameOff c d (Some (roll-Value (Value-F.Array is))) (Some (roll-Value (Value-F.Array js)))
 same_arrays c d v w is js a b h = subst (λ (z : Value). SameOff c d (Some z) (Some (roll-Value (Value-F.Array js)))) (rolled_array v is a) (subst (λ (z : Value). SameOff c d (Some v) (Some z)) (rolled_array w js b) h)
@@ -308,7 +306,7 @@ pub resize_goes : (n : ℕ) → Goes (resize_here n) (from_index n) (ResizeFits 
 resize_goes n = λ d mono v w fits same q m.
     let kind : shape v ≡ shape w = same_shape v w (same [] refl (mono [] q m)) in
     let a = an_array_too v (kind ∙ array_shape w fits.1 fits.2) in
-    rw (resize_on n v a.0 fits.0 a.1, resize_on n w fits.1 fits.0 fits.2)
+    rw (resize_on n v a.0 a.1, resize_on n w fits.1 fits.2)
     (arrays_agree n d a.0 fits.1 mono fits.3 (same_arrays (from_index n) d v w a.0 fits.1 a.1 fits.2 same) q m)
 
 pub play_goes : (f : Form) (t : Touch) → Goes (play f t) (covers t) (Fits f t)

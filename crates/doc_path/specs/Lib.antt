@@ -1,4 +1,6 @@
 pub mod Touch
-pub mod Agree
 pub mod Played
+pub mod Ways
+pub mod Rules
+pub mod Agree
 pub mod Laws

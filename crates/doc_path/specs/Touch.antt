@@ -44,20 +44,29 @@ abbrev pub or_else : Option Value → Option Value → Option Value
 or_else None d = d
 or_else (Some c) d = Some c
 
--- g is done to the value at the end of the way. A missing value on the way is d, or leaves all
+-- g is done to the value at the end of the way, where each part is taken. A missing value on the way is d, or leaves all
+abbrev pub walk_by : (Part → Shape → Bool) → Option Value → List Part → (Value → Value) → Value → Value
+walk_by taken d [] g v = g v
+walk_by taken d (p ∷ ps) g v = if taken p (shape v) then into (walk_by taken d ps g) v (key_of p) (or_else (child v (key_of p)) d) else v
+
+abbrev pub set_by : (Part → Shape → Bool) → Part → Value → Value → Value
+set_by taken p a v = if taken p (shape v) then put v (key_of p) a else v
+
+abbrev pub unset_by : (Part → Shape → Bool) → Part → Value → Value
+unset_by taken p v = if taken p (shape v) then del v (key_of p) else v
+
+-- the same in replay
 abbrev pub walk : Form → Option Value → List Part → (Value → Value) → Value → Value
-walk f d [] g v = g v
-walk f d (p ∷ ps) g v =
-    if takes f p (shape v) then into (walk f d ps g) v (key_of p) (or_else (child v (key_of p)) d) else v
+walk f d ps g v = walk_by (takes f) d ps g v
 
 abbrev pub set_last : Form → Part → Value → Value → Value
-set_last f p a v = if takes f p (shape v) then put v (key_of p) a else v
+set_last f p a v = set_by (takes f) p a v
 
 abbrev pub unset_last : Form → Part → Value → Value
-unset_last f p v = if takes f p (shape v) then del v (key_of p) else v
+unset_last f p v = unset_by (takes f) p v
 
 abbrev pub resize_in : ℕ → Value-F Value → Value-F Value
-resize_in n (Value-F.Array vs) = Value-F.Array (if nat_lt n limit then sized n vs else vs)
+resize_in n (Value-F.Array vs) = Value-F.Array (sized n vs)
 resize_in n f = f
 
 unfoldable pub resize_here : ℕ → Value → Value
@@ -73,11 +82,14 @@ play f (Set ps p a) v = walk f (made f) ps (set_last f p a) v
 play f (Unset ps p) v = walk f None ps (unset_last f p) v
 play f (Resize ps n) v = walk f None ps (resize_here n) v
 
--- what is done at the last part of a place; a new length is one step further
+-- what is done at the last part of a place, where it is taken. A new length is one step further
+abbrev pub step_by : (Part → Shape → Bool) → Part → Change → Value → Value
+step_by taken p (Put a) v = set_by taken p a v
+step_by taken p Delete v = unset_by taken p v
+step_by taken p (Length n) v = walk_by taken None (p ∷ []) (resize_here n) v
+
 abbrev pub last_step : Form → Part → Change → Value → Value
-last_step f p (Put a) = set_last f p a
-last_step f p Delete = unset_last f p
-last_step f p (Length n) = walk f None (p ∷ []) (resize_here n)
+last_step f p c v = step_by (takes f) p c v
 
 -- what a missing value on the way counts as
 abbrev pub made_for : Form → Change → Option Value

@@ -1,9 +1,12 @@
 //! Places in documents, what touches do at them, and when two documents agree for a list of touches.
 #![tactic(auto)]
 
+mod elements;
+mod index;
 mod laws;
 mod parts;
 mod touches;
+mod writing;
 
 pub use laws::{
     agreed_for_no_touches, agrees_with_itself, any_order_records, changes_what_it_covers,
@@ -12,3 +15,4 @@ pub use laws::{
 };
 pub use parts::{Change, Form, Part};
 pub use touches::{Place, Touch};
+pub use writing::change_document;

@@ -23,3 +23,14 @@ pub enum Change {
     Delete,
     Resize(u32),
 }
+
+/// By which rule a change goes down a place.
+#[derive(Clone, Copy)]
+pub enum Rule {
+    /// A name in a document, an index in an array.
+    Plain,
+    /// As replay does in the first form.
+    V1,
+    /// As replay does in the second form: like `Plain`, with low indexes alone.
+    V2,
+}

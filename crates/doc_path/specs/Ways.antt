@@ -1,0 +1,42 @@
+-- The way of a place through a document, and what is done at its end.
+use Rattle.std.specs.Prelude.{◌≡◌, List, [], ◌∷◌, Bool, true, false, Option, Some, None, if◌then◌else◌}
+use Rattle.bson_value.specs.declared.value.Value.{Value}
+use Rattle.bson_value.specs.Place.{Shape, an_array, an_object, shape, child}
+use Rattle.doc_path.specs.declared.parts.Part.{Part}
+use Rattle.doc_path.specs.declared.parts.Change.{Change}
+use Rattle.doc_path.specs.Touch.{name, index, key_of, walk_by, step_by, InReach}
+use Rattle.doc_path.specs.Played.{way_and_last}
+
+-- whether a part leads on at a value of this kind: a name in a document, an index in an array
+abbrev pub leads : Part → Shape → Bool
+leads (name k) an_object = true
+leads (index n) an_array = true
+leads _ _ = false
+
+-- the value that a part leads to
+abbrev pub under : Part → Value → Option Value
+under p v = if leads p (shape v) then child v (key_of p) else None
+
+abbrev pub value_from : Option Value → List Part → Option Value
+value_from None ps = None
+value_from (Some v) [] = Some v
+value_from (Some v) (p ∷ ps) = value_from (under p v) ps
+
+-- the value at a place
+abbrev pub value_in : List Part → Value → Option Value
+value_in ps v = value_from (Some v) ps
+
+-- a change at the end of the way, where the way is there
+abbrev pub changed_along : List Part → Part → Change → Value → Value
+changed_along ps p c v = walk_by leads None ps (step_by leads p c) v
+
+-- a change at a place
+abbrev pub changed_at : List Part → Change → Value → Value
+changed_at [] c v = v
+changed_at (p ∷ ps) c v = changed_along (way_and_last p ps).0 (way_and_last p ps).1 c v
+
+-- a value may be set at the place: its parent is there and of the right kind, and an index is at most the array's length
+abbrev pub HasRoom : List Part → Value → Type 0
+HasRoom [] v = ⊥
+HasRoom (p ∷ []) v = (leads p (shape v) ≡ true) × InReach p v
+HasRoom (p ∷ (q ∷ ps)) v = (c : Value) × (under p v ≡ Some c) × HasRoom (q ∷ ps) c
