@@ -9,3 +9,4 @@ pub mod Places
 pub mod Indexes
 pub mod Decimals
 pub mod Steps
+pub mod Down

@@ -17,11 +17,11 @@ use Rattle.doc_path.specs.declared.parts.Change.TheVariants.{Put, Delete, Resize
 use Rattle.bson_value.proofs.Digits.{index_of-digits}
 use Rattle.doc_path.proofs.Places.{child-object, child-array}
 
-shape-object : (fs : List (List ℕ × Value)) → shape (Object fs) ≡ an_object
+pub shape-object : (fs : List (List ℕ × Value)) → shape (Object fs) ≡ an_object
 unfolding shape
 shape-object fs = ap shape_in (outs-Object fs)
 
-shape-array : (vs : List Value) → shape (Array vs) ≡ an_array
+pub shape-array : (vs : List Value) → shape (Array vs) ≡ an_array
 unfolding shape
 shape-array vs = ap shape_in (outs-Array vs)
 
@@ -129,7 +129,7 @@ other_in v (Value-F.Array vs) e r p a b = absurd (b vs (sym e ∙ rolls-Array vs
 other_in v (Value-F.ScopedCode t fs) e r p a b = takes_code r p t
 other_in v l e r p a b = takes_leaf r p l
 
-other_takes : (v : Value) (r : Rule) (p : Part) → ((fs : List (List ℕ × Value)) → v ≡ Object fs → ⊥) → ((vs : List Value) → v ≡ Array vs → ⊥) → taken_by r p (shape v) ≡ false
+pub other_takes : (v : Value) (r : Rule) (p : Part) → ((fs : List (List ℕ × Value)) → v ≡ Object fs → ⊥) → ((vs : List Value) → v ≡ Array vs → ⊥) → taken_by r p (shape v) ≡ false
 unfolding shape
 other_takes v r p a b = other_in v (out-Value v) (roll-out-Value v) r p a b
 
@@ -141,7 +141,7 @@ other_untaken r p d ps g v a b = untaken r p d ps g v (other_takes v r p a b)
 set_off : (r : Rule) (p : Part) (a v : Value) → taken_by r p (shape v) ≡ false → v ≡ set_by (taken_by r) p a v
 set_off r p a v e = rw e refl
 
-unset_off : (r : Rule) (p : Part) (v : Value) → taken_by r p (shape v) ≡ false → v ≡ unset_by (taken_by r) p v
+pub unset_off : (r : Rule) (p : Part) (v : Value) → taken_by r p (shape v) ≡ false → v ≡ unset_by (taken_by r) p v
 unset_off r p v e = rw e refl
 
 -- where the last part is not taken, all is as before

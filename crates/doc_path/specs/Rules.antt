@@ -12,9 +12,9 @@ use Rattle.doc_path.specs.Touch.{takes, walk_by, step_by, made_for}
 use Rattle.doc_path.specs.Ways.{leads}
 
 abbrev pub taken_by : Rule → Part → Shape → Bool
-taken_by rule.Plain p s = leads p s
-taken_by rule.V1 p s = takes form.V1 p s
-taken_by rule.V2 p s = takes form.V2 p s
+taken_by rule.Plain = leads
+taken_by rule.V1 = takes form.V1
+taken_by rule.V2 = takes form.V2
 
 -- what a missing value on the way counts as
 abbrev pub made_by : Rule → Change → Option Value

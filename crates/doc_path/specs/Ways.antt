@@ -1,6 +1,6 @@
 -- The way of a place through a document, and what is done at its end.
 use Rattle.std.specs.Prelude.{◌≡◌, List, [], ◌∷◌, Bool, true, false, Option, Some, None, if◌then◌else◌}
-use Rattle.bson_value.specs.declared.value.Value.{Value}
+use Rattle.bson_value.specs.declared.value.Value.{Value, Array, Null}
 use Rattle.bson_value.specs.Place.{Shape, an_array, an_object, shape, child}
 use Rattle.doc_path.specs.declared.parts.Part.{Part}
 use Rattle.doc_path.specs.declared.parts.Change.{Change}
@@ -40,3 +40,15 @@ abbrev pub HasRoom : List Part → Value → Type 0
 HasRoom [] v = ⊥
 HasRoom (p ∷ []) v = (leads p (shape v) ≡ true) × InReach p v
 HasRoom (p ∷ (q ∷ ps)) v = (c : Value) × (under p v ≡ Some c) × HasRoom (q ∷ ps) c
+
+-- an array stands at the place
+abbrev pub IsArrayAt : List Part → Value → Type 0
+IsArrayAt ps v = (vs : List Value) × (value_in ps v ≡ Some (Array vs))
+
+-- what is left at a place that is unset: nothing of a field, and null of an element that was there
+abbrev pub emptied : List Part → Option Value → Option Value
+emptied [] o = o
+emptied (name k ∷ []) o = None
+emptied (index n ∷ []) None = None
+emptied (index n ∷ []) (Some v) = Some Null
+emptied (p ∷ (q ∷ ps)) o = emptied (q ∷ ps) o

@@ -5,7 +5,9 @@ mod elements;
 mod index;
 mod laws;
 mod parts;
+mod place;
 mod touches;
+mod unsetting;
 mod writing;
 
 pub use laws::{
@@ -14,5 +16,6 @@ pub use laws::{
     record_heals, record_law,
 };
 pub use parts::{Change, Form, Part};
+pub use place::at;
 pub use touches::{Place, Touch};
 pub use writing::change_document;
