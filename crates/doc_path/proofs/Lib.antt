@@ -10,3 +10,5 @@ pub mod Indexes
 pub mod Decimals
 pub mod Steps
 pub mod Down
+pub mod Changed
+pub mod Emptied

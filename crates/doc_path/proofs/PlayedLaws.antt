@@ -2,13 +2,13 @@
 use Rattle.std.proofs.Common.{◌≡◌, List, [], ◌∷◌, ◌++◌, Bool, true, false, refl, sym, ap, ◌∙◌, subst, Some, None}
 use Rattle.std.specs.Prelude.{◌||◌}
 use Rattle.bson_value.specs.declared.value.Value.{Value}
-use Rattle.bson_value.specs.Place.{Place, look}
+use Rattle.bson_value.specs.Place.{Place, Shape, look}
 use Rattle.doc_path.specs.declared.parts.Part.{Part}
 use Rattle.doc_path.specs.declared.parts.Form.{Form}
 use Rattle.doc_path.specs.declared.parts.Form.TheVariants.{V1, V2}
 use Rattle.doc_path.specs.declared.parts.Change.{Change}
 use Rattle.doc_path.specs.declared.parts.Change.TheVariants.{Put, Delete, Resize as Length}
-use Rattle.doc_path.specs.Touch.{Touch, walk, resize_here, play, changed, Fits}
+use Rattle.doc_path.specs.Touch.{Touch, takes, walk_by, resize_here, play, changed, Fits}
 use Rattle.doc_path.specs.Agree.{Agree, play_all, Records}
 use Rattle.doc_path.specs.Played.{left_at, is_left, played, played_all, NoneLeft, way_and_last, touch_by, touch_at, too_long}
 use Rattle.doc_path.proofs.Cover.{agree_step}
@@ -32,13 +32,13 @@ agree_played f t ts y x l fits h = rw l (agree_step f t ts y x fits h)
 
 -- ---- a place as it stands in code
 
+pub split : (w : Part) (ws : List Part) (p : Part) → way_and_last w (ws ++ (p ∷ [])) ≡ (w ∷ ws, p)
+split w [] p = refl
+split w (x ∷ ws) p = ap (λ (z : List Part × Part). (w ∷ z.0, z.1)) (split x ws p)
+
 pub split-append : (ws : List Part) (p : Part) (c : Change) → touch_at (ws ++ (p ∷ [])) c ≡ touch_by (ws, p) c
 split-append [] p c = refl
 split-append (w ∷ ws) p c = ap (λ (z : List Part × Part). touch_by z c) (split w ws p)
-  where
-    split : (w : Part) (ws : List Part) (p : Part) → way_and_last w (ws ++ (p ∷ [])) ≡ (w ∷ ws, p)
-    split w [] p = refl
-    split w (x ∷ ws) p = ap (λ (z : List Part × Part). (w ∷ z.0, z.1)) (split x ws p)
 
 or_no : (b : Bool) → b || false ≡ b
 or_no true = refl
@@ -49,17 +49,17 @@ left_by ws p (Put a) = sym (or_no (left_at (ws ++ (p ∷ []))))
 left_by ws p Delete = sym (or_no (left_at (ws ++ (p ∷ []))))
 left_by ws p (Length n) = refl
 
-walk-append : (f : Form) (ws : List Part) (p : Part) (g : Value → Value) (v : Value) → walk f None ws (walk f None (p ∷ []) g) v ≡ walk f None (ws ++ (p ∷ [])) g v
-walk-append f [] p g v = refl
-walk-append f (w ∷ ws) p g v = ap (λ (h : Value → Value). walk f None (w ∷ []) h v) (λ i u. walk-append f ws p g u i)
+pub walk-append : (taken : Part → Shape → Bool) (ws : List Part) (p : Part) (g : Value → Value) (v : Value) → walk_by taken None ws (walk_by taken None (p ∷ []) g) v ≡ walk_by taken None (ws ++ (p ∷ [])) g v
+walk-append taken [] p g v = refl
+walk-append taken (w ∷ ws) p g v = ap (λ (h : Value → Value). walk_by taken None (w ∷ []) h v) (λ i u. walk-append taken ws p g u i)
 
 changed_by : (f : Form) (ws : List Part) (p : Part) (c : Change) (v : Value) → changed f ws p c v ≡ play f (touch_by (ws, p) c) v
 changed_by V1 ws p (Put a) v = refl
 changed_by V2 ws p (Put a) v = refl
 changed_by V1 ws p Delete v = refl
 changed_by V2 ws p Delete v = refl
-changed_by V1 ws p (Length n) v = walk-append V1 ws p (resize_here n) v
-changed_by V2 ws p (Length n) v = walk-append V2 ws p (resize_here n) v
+changed_by V1 ws p (Length n) v = walk-append (takes V1) ws p (resize_here n) v
+changed_by V2 ws p (Length n) v = walk-append (takes V2) ws p (resize_here n) v
 
 pub plays : (f : Form) (ws : List Part) (p : Part) (c : Change) (v w : Value) → left_at (ws ++ (p ∷ [])) ≡ false → too_long c ≡ false → w ≡ changed f ws p c v → w ≡ played f (touch_at (ws ++ (p ∷ [])) c) v
 plays f ws p c v w a b e =

@@ -16,6 +16,6 @@ pub use laws::{
     record_heals, record_law,
 };
 pub use parts::{Change, Form, Part};
-pub use place::at;
+pub use place::{at, resize, set, unset};
 pub use touches::{Place, Touch};
 pub use writing::change_document;

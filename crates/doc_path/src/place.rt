@@ -1,15 +1,14 @@
 //! Values at places, and changes of a document at a place.
-ghost use Rattle.std.specs.Prelude.{◌≡◌, ◌↔◌, ◌++◌, ◌∷◌, [], false, length, min, is_some, List, Some, IsTrue, IsSome, OnOk, OnErr};
+ghost use Rattle.std.specs.Prelude.{◌≡◌, ◌↔◌, Some, IsTrue, IsSome, OnOk, OnErr};
 ghost use Rattle.std.specs.Option.{option_copied};
-ghost use Rattle.bson_value.specs.declared.value.Value.{Value as Datum, Object as object_of, Array as array_of};
-ghost use Rattle.bson_value.specs.Place.{Place as OnePlace, look, sized};
+ghost use Rattle.bson_value.specs.declared.value.Value.{Object as object_of, Array as array_of};
 ghost use Rattle.doc_path.specs.declared.parts.Change.TheVariants.{Put, Delete, Resize as Length};
-ghost use Rattle.doc_path.specs.Touch.{covers, walk_by, unset_by};
 ghost use Rattle.doc_path.specs.Played.{touch_at};
-ghost use Rattle.doc_path.specs.Ways.{leads, under, value_in, changed_at, emptied, HasRoom, IsArrayAt};
+ghost use Rattle.doc_path.specs.Ways.{under, value_in, changed_at, emptied, HasRoom, IsArrayAt, IsResizedAt, ChangesOnly, ChangesOnlyBehind};
 
 use crate::parts::{Change, Part, Rule};
 use crate::touches::Place;
+use crate::unsetting::unset_in;
 use crate::writing::change_in;
 use bson_value::{Doc, List, Value};
 use std::alloc::{AllocError, Global};
@@ -62,4 +61,47 @@ pub fn at<'d>(doc: &'d Doc, place: &Place) -> Option<&'d Value>
 {
     let (first, rest) = place.parts().as_slice().split_first()?;
     at_end(field(doc, first)?, rest)
+}
+
+/// Sets the value at the place: in the place of the one there, or as a new field at the end, or as a
+/// new element at the end.
+pub fn set(alloc: Global, doc: &mut Doc, place: &Place, value: Value) -> Result<(), AllocError>
+    requires { HasRoom place.now (object_of doc.old) }
+    ensures document { OnOk result (object_of doc.new ≡ changed_at place.now (Put value) (object_of doc.old)) }
+    ensures there { OnOk result (value_in place.now (object_of doc.new) ≡ Some value) }
+    ensures elsewhere { OnOk result (ChangesOnly (touch_at place.now (Put value)) (object_of doc.old) (object_of doc.new)) }
+    ensures err { OnErr result (doc.new ≡ doc.old) }
+{
+    match place.parts().as_slice().split_last() {
+        None => Ok(()),
+        Some((last, way)) => change_in(alloc, doc, Rule::Plain, way, last, Change::Put(value)),
+    }
+}
+
+/// Takes out the field at the place. An element there becomes null, so that those behind it stay
+/// where they are. Whether there was one. It takes no memory.
+pub fn unset(doc: &mut Doc, place: &Place) -> bool
+    ensures answer { IsTrue result ↔ IsSome (value_in place.now (object_of doc.old)) }
+    ensures document { object_of doc.new ≡ changed_at place.now Delete (object_of doc.old) }
+    ensures after { value_in place.now (object_of doc.new) ≡ emptied place.now (value_in place.now (object_of doc.old)) }
+    ensures elsewhere { ChangesOnly (touch_at place.now Delete) (object_of doc.old) (object_of doc.new) }
+{
+    match place.parts().as_slice().split_last() {
+        None => false,
+        Some((last, way)) => unset_in(doc, way, last),
+    }
+}
+
+/// Cuts the array at the place to this length, or pads it with nulls.
+pub fn resize(alloc: Global, doc: &mut Doc, place: &Place, len: u32) -> Result<(), AllocError>
+    requires { IsArrayAt place.now (object_of doc.old) }
+    ensures document { OnOk result (object_of doc.new ≡ changed_at place.now (Length len) (object_of doc.old)) }
+    ensures there { OnOk result (IsResizedAt place.now len (object_of doc.old) (object_of doc.new)) }
+    ensures elsewhere { OnOk result (ChangesOnlyBehind place.now len (object_of doc.old) (object_of doc.new)) }
+    ensures err { OnErr result (doc.new ≡ doc.old) }
+{
+    match place.parts().as_slice().split_last() {
+        None => Ok(()),
+        Some((last, way)) => change_in(alloc, doc, Rule::Plain, way, last, Change::Resize(len)),
+    }
 }
