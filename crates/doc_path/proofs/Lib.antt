@@ -12,3 +12,4 @@ pub mod Steps
 pub mod Down
 pub mod Changed
 pub mod Emptied
+pub mod Named

@@ -3,4 +3,5 @@ pub mod Played
 pub mod Ways
 pub mod Rules
 pub mod Agree
+pub mod Paths
 pub mod Laws

@@ -5,6 +5,7 @@ mod elements;
 mod index;
 mod laws;
 mod parts;
+mod path;
 mod place;
 mod touches;
 mod unsetting;
@@ -16,6 +17,7 @@ pub use laws::{
     record_heals, record_law,
 };
 pub use parts::{Change, Form, Part};
+pub use path::{Path, PathFault};
 pub use place::{at, resize, set, unset};
 pub use touches::{Place, Touch};
 pub use writing::change_document;
