@@ -1,6 +1,7 @@
 -- The first fault of a path, part by part.
-use Rattle.std.proofs.Common.{◌≡◌, ℕ, ◌<◌, ◌+◌, List, [], ◌∷◌, length, get_or, drop, false, refl, sym, ap, ◌∙◌, Option, None}
+use Rattle.std.proofs.Common.{arith, ◌≡◌, ℕ, ◌<◌, ◌+◌, List, [], ◌∷◌, length, get_or, drop, false, refl, sym, ap, ◌∙◌, Option, None}
 use Rattle.std.specs.Prelude.{◌==◌}
+use Rattle.std.proofs.lemmas.List.Splits.{length-slice_split}
 use Rattle.std.proofs.lemmas.List.{at_drop_more}
 use Rattle.doc_path.specs.declared.path.PathFault.{PathFault}
 use Rattle.doc_path.specs.declared.path.PathFault.TheVariants as faults
@@ -23,3 +24,13 @@ stops faults.Empty o later f = rw f refl
 stops faults.EmptyPart o later f = rw f refl
 stops faults.Dollar o later f = rw f refl
 stops faults.Zero o later f = rw f refl
+
+some_parts : (text : List ℕ) → parts_of text ≡ [] → ⊥
+some_parts text e =
+    let l = length-slice_split (λ (b : ℕ). b == 46) text in
+    let n : length (parts_of text) ≡ 0 = ap length e in
+    omega (arith, l, n)
+
+-- what a path keeps
+pub is_path : (text : List ℕ) (names : List (List ℕ)) → names ≡ parts_of text → first_fault (parts_of text) ≡ None → (names ≡ [] → ⊥) × (first_fault names ≡ None)
+is_path text names e f = ((λ n. some_parts text (sym e ∙ n)), ap first_fault e ∙ f)

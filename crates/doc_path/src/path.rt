@@ -1,7 +1,7 @@
 //! Paths: names with dots between them.
-ghost use Rattle.std.specs.Prelude.{◌≡◌, None, IfOk, OnOk, IfErr};
+ghost use Rattle.std.specs.Prelude.{◌≡◌, [], None, IfOk, OnOk, IfErr};
 ghost use Rattle.doc_path.specs.declared.path.PathFault.TheVariants.{NoMemory};
-ghost use Rattle.doc_path.specs.Paths.{parts_of, part_fault, path_fault, IsFault};
+ghost use Rattle.doc_path.specs.Paths.{parts_of, part_fault, first_fault, path_fault, IsFault};
 
 use bson_value::{CText, List};
 use std::alloc::{AllocError, Global};
@@ -39,14 +39,17 @@ pub struct Path {
 }
 
 impl Model for Path {
-    ghost use Rattle.std.specs.Prelude.{List, ℕ};
+    ghost use Rattle.std.specs.Prelude.{List, ℕ, ◌≡◌, [], None};
     ghost use Rattle.std.specs.Coded.{coded_list, coded_ℕ};
+    ghost use Rattle.doc_path.specs.Paths.{first_fault};
 
     ghost Value = { List (List ℕ) };
 
     ghost coded = { coded_list (coded_list coded_ℕ) };
 
     ghost view = { λ p. p.names };
+
+    ghost invariant = { λ p. (p.names ≡ [] → ⊥) × (first_fault p.names ≡ None) };
 }
 
 /// A part of a path, as a name.
@@ -86,7 +89,9 @@ impl Path {
 
     /// The names, the outermost first. It takes no memory.
     pub fn names(&self) -> &List<CText>
-        ensures { result.now ≡ self.now }
+        ensures names { result.now ≡ self.now }
+        ensures some { self.now ≡ [] → ⊥ }
+        ensures faultless { first_fault self.now ≡ None }
     {
         &self.names
     }

@@ -3,7 +3,7 @@ use Rattle.std.proofs.lemmas.List.{length_push, at_drop_all, map-append}
 use Rattle.std.proofs.lemmas.Iterator.Splits.{YieldsList-from_str_split}
 use Rattle.std.proofs.lemmas.Iterator.Consumers.{YieldsList-turn, YieldsList-end}
 use Rattle.doc_path.specs.Paths.{parts_of, first_fault}
-use Rattle.doc_path.proofs.Named.{first_fault-drop, passes, stops, some_text}
+use Rattle.doc_path.proofs.Named.{is_path, first_fault-drop, passes, stops, some_text}
 use Rattle.doc_path.proofs.path.Path.read.Goals as goal
 
 pub returns-in_err-read_part-clause-fault : goal.returns-in_err-read_part-clause-fault
@@ -42,3 +42,9 @@ returns-clause-faultless c =
     let y = YieldsList-from_str_split 46 c.args.text.now (lit< tt) (rw c.into_iter-part-iterator.ensures.into_iter_gives c.split-part-items.ensures.text) (rw c.into_iter-part-iterator.ensures.into_iter_gives c.split-part-items.ensures.has_more) (rw c.into_iter-part-iterator.ensures.into_iter_gives c.split-part-items.ensures.pattern) in
     let t = YieldsList-end y c.loop-part.yielded _ c.loop-part.yielded_by _ _ c.in-None.is c.next.ensures.steps in
     some_text c.args.text.now (sym c.is_empty.ensures ∙ c.if-is_empty.false) ∙ (c.loop-part.invariant.passed ∙ at_drop_all first_fault (parts_of c.args.text.now) (length c.loop-part.yielded) (omega (arith, t.1)))
+
+pub invariant_of-result : goal.invariant_of-result
+invariant_of-result c =
+    let y = YieldsList-from_str_split 46 c.args.text.now (lit< tt) (rw c.into_iter-part-iterator.ensures.into_iter_gives c.split-part-items.ensures.text) (rw c.into_iter-part-iterator.ensures.into_iter_gives c.split-part-items.ensures.has_more) (rw c.into_iter-part-iterator.ensures.into_iter_gives c.split-part-items.ensures.pattern) in
+    let t = YieldsList-end y c.loop-part.yielded _ c.loop-part.yielded_by _ _ c.in-None.is c.next.ensures.steps in
+    is_path c.args.text.now c.loop-part.names (c.loop-part.invariant.named ∙ t.0) (c.loop-part.invariant.passed ∙ at_drop_all first_fault (parts_of c.args.text.now) (length c.loop-part.yielded) (omega (arith, t.1)))
