@@ -2,7 +2,7 @@
 use Rattle.std.proofs.Common.{◌≡◌, ℕ, List, [], ◌∷◌, refl, sym, ap, ◌∙◌, subst, true, false, Option, Some, None}
 use Rattle.std.specs.Prelude.{slice_get, is_some}
 use Rattle.bson_value.specs.declared.value.Value.{Value}
-use Rattle.bson_value.specs.declared.value.Value.TheVariants.{Object, Array}
+use Rattle.bson_value.specs.declared.value.Value.TheVariants.{Object, Array, outs-Object}
 use Rattle.containers.specs.Entries.{lookup, put as put_field, without}
 use Rattle.bson_value.specs.Digits.{digits, index_of}
 use Rattle.bson_value.specs.Place.{nth, put_item, blank_item, an_array}
@@ -10,7 +10,7 @@ use Rattle.bson_value.proofs.Digits.{index_of-digits}
 use Rattle.doc_path.specs.declared.parts.Rule.TheVariants.{Plain, V1}
 use Rattle.doc_path.specs.Touch.{Part, name, index, key_of, or_else, walk_by, unset_by}
 use Rattle.doc_path.specs.Rules.{taken_by}
-use Rattle.doc_path.specs.Ways.{leads, under, value_from, value_in}
+use Rattle.doc_path.specs.Ways.{leads, under, value_from, value_in, HasRoom}
 use Rattle.doc_path.proofs.Places.{child-object, child-array}
 use Rattle.doc_path.proofs.Steps.{shape-object, shape-array, other_takes, nth-slice_get, doc_step, doc_stops, array_step, array_stops, array_untaken, index_stays, index_part, name_part, other_untaken, unset_object, unset_array, unset_off}
 
@@ -119,3 +119,7 @@ none_is o e = sym (ap is_some e)
 
 pub some_is : {A : Type 0} (o : Option A) (a : A) → o ≡ Some a → true ≡ is_some o
 some_is o a e = sym (ap is_some e)
+
+-- a document has room for each field
+pub field_has_room : (k : List ℕ) (fs : List (List ℕ × Value)) → HasRoom (name k ∷ []) (Object fs)
+field_has_room k fs = (Object fs, refl, (rw (shape-object fs) refl, rw (outs-Object fs) tt))

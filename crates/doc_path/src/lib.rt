@@ -21,3 +21,6 @@ pub use path::{Path, PathFault};
 pub use place::{at, resize, set, unset};
 pub use touches::{Place, Touch};
 pub use writing::change_document;
+
+#[cfg(test)]
+mod tests;
