@@ -1,0 +1,6 @@
+pub mod Takings
+pub mod Seats
+pub mod Buffers
+pub mod Begin
+pub mod Turn
+pub mod Sight
