@@ -1,11 +1,11 @@
 -- Before the first byte.
-use Rattle.std.proofs.Common.{◌≡◌, ℕ, ◌+◌, ◌≤◌, ◌++◌, Bool, List, [], length, take, drop, refl, ap, sym, subst, ◌∙◌, append_assoc, arith}
+use Rattle.std.proofs.Common.{◌≡◌, ℕ, ◌≤◌, ◌++◌, Bool, List, [], length, take, drop, refl, ap, sym, subst, ◌∙◌, append_assoc, arith}
 use Rattle.std.specs.Prelude.{None, Some, Option, Result}
 use Rattle.archive_format.specs.declared.fault.DemuxFault.{DemuxFault}
 use Rattle.archive_format.specs.Archive.{Taking, text_of, Stage, start}
 use Rattle.std.proofs.lemmas.List.{take-append-drop}
 use Rattle.demux.specs.Steps.{AsksFirst}
-use Rattle.demux.specs.Told.{Asked_told, Ahead, Ahead_told, Watch, Stands, Turns}
+use Rattle.demux.specs.Told.{Asked_told, Ahead_told, Watch, Stands, Turns}
 use Rattle.archive_format.proofs.Fold.{clean_none}
 use Rattle.std.specs.Io.KnownBytes.{Keeps, Consumes}
 use Rattle.demux.proofs.Sight.{size}

@@ -4,3 +4,6 @@ pub mod Buffers
 pub mod Begin
 pub mod Turn
 pub mod Sight
+pub mod Jumps
+pub mod Elements
+pub mod Typed

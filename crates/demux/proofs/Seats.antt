@@ -1,5 +1,5 @@
 -- An entry of the namespaces that headers named, before and after a write.
-use Rattle.std.proofs.Common.{◌≡◌, ℕ, ◌<◌, ◌≤◌, List, length, refl, sym, ap, ◌∙◌, arith, get_or, set, length-set, drop, drop-cons, false}
+use Rattle.std.proofs.Common.{◌≡◌, ℕ, ◌<◌, List, length, refl, sym, get_or, set, length-set, drop, drop-cons, false}
 use Rattle.std.specs.Prelude.{Some, slice_get, Option}
 use Rattle.std.proofs.lemmas.Option.{slice_get_read}
 use Rattle.std.proofs.lemmas.List.{get_or-set_same}

@@ -2,7 +2,7 @@
 use Rattle.std.specs.Prelude.{⊤, ℕ, ◌≡◌, List, [], ◌∷◌, ◌++◌, Bool, Option, Some, None, Result, Ok, Err, slice_get}
 use Rattle.bson_value.specs.declared.namespace.NsName.{NsName}
 use Rattle.bson_check.specs.declared.fault.BsonFault.{BsonFault}
-use Rattle.archive_format.specs.Archive.{Item, text_of, IsItem, Taking, meta, doc, end, Seen, Stage, Verdict, goes, bad, Asks, Next, short, onward, wrong}
+use Rattle.archive_format.specs.Archive.{Item, text_of, IsItem, Taking, meta, Seen, Stage, Verdict, goes, bad, Asks, Next, short, onward, wrong}
 use Rattle.archive_format.specs.declared.fault.DemuxFault.{DemuxFault}
 use Rattle.archive_format.specs.declared.fault.DemuxFault.TheVariants as faults
 use Rattle.demux.specs.Takes.{Took}

@@ -4,9 +4,10 @@ ghost use Rattle.archive_format.specs.Shapes.{named};
 ghost use Rattle.archive_format.specs.Archive.{header_in, metadata_in, head_in, fault_in, fields_of};
 ghost use Rattle.demux.specs.Steps.{Unread};
 
-use crate::parts::{self, NsHead};
+use crate::heads::{NsHead, read_ns_head};
+use crate::prelude;
 use archive_format::DemuxFault;
-use bson_core::{BsonFault, Doc, DecodeFault, MAX_DOCUMENT_BYTES, NsName, Text, check, decode};
+use bson_core::{BsonFault, DecodeFault, Doc, MAX_DOCUMENT_BYTES, NsName, Text, check, decode};
 use std::alloc::Global;
 
 // The most levels of a document.
@@ -50,21 +51,17 @@ pub fn is_header(alloc: Global, at: u64, bytes: &[u8]) -> Result<bool, DemuxFaul
     ensures err { IfErr result (λ f. Unread f at (fault_in bytes.now)) }
 {
     let doc = decoded(alloc, at, bytes)?;
-    Ok(parts::read_header(alloc, &doc)?)
+    Ok(prelude::is_header(&doc))
 }
 
 /// The namespace and the text, if the bytes are metadata.
 #[tactic(auto, unfolding(archive_format::specs::Archive::fault_in, archive_format::specs::Archive::metadata_in))]
-pub fn metadata(
-    alloc: Global,
-    at: u64,
-    bytes: &[u8],
-) -> Result<Option<(NsName, Text)>, DemuxFault>
+pub fn metadata(alloc: Global, at: u64, bytes: &[u8]) -> Result<Option<(NsName, Text)>, DemuxFault>
     ensures ok { IfOk result (λ o. (fault_in bytes.now ≡ None) × (metadata_in bytes.now ≡ option_map (λ m. record { ns = m.0; text = m.1 }) o)) }
     ensures err { IfErr result (λ f. Unread f at (fault_in bytes.now)) }
 {
     let doc = decoded(alloc, at, bytes)?;
-    Ok(parts::read_meta(alloc, &doc)?)
+    Ok(prelude::read_meta(alloc, &doc)?)
 }
 
 /// What a block's header says, if the bytes are one. It takes no memory.
@@ -74,5 +71,5 @@ pub fn head(at: u64, bytes: &[u8]) -> Result<Option<NsHead<'_>>, DemuxFault>
     ensures fed { IfErr result (λ f. f ≡ DemuxFault.NoMemory → ⊥) }
 {
     checked(at, bytes)?;
-    Ok(parts::read_ns_head(bytes))
+    Ok(read_ns_head(bytes))
 }

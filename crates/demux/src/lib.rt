@@ -2,8 +2,10 @@
 #![tactic(auto)]
 
 mod documents;
+mod heads;
 mod items;
 mod parts;
+mod prelude;
 mod progress;
 mod run;
 mod seen;

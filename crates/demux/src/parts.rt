@@ -1,4 +1,4 @@
-//! Stand-ins.
+//! A stand-in for the checksum.
 ghost use Rattle.std.specs.Prelude.{◌≡◌, ◌∷◌, [], ℕ, List, Option, Some, None, IfOk, option_map, is_some};
 ghost use Rattle.std.specs.Result.{result_ok};
 ghost use Rattle.archive_format.specs.Crc.{crc_start, crc_on, crc_end, shift, crc_step};
@@ -13,7 +13,11 @@ use std::marker::Model;
 fn shift(r: u64) -> u64
     ensures { result ≡ shift r }
 {
-    if r % 2 == 1 { (r / 2) ^ 0xc96c5795d7870f42 } else { r / 2 }
+    if r % 2 == 1 {
+        (r / 2) ^ 0xc96c5795d7870f42
+    } else {
+        r / 2
+    }
 }
 
 #[tactic(auto, unfolding(archive_format::specs::Crc::crc_step))]
@@ -57,31 +61,4 @@ impl Crc {
     {
         self.left ^ u64::MAX
     }
-}
-
-#[derive(Clone, Copy, Debug)]
-pub struct NsHead<'a> {
-    pub db: &'a str,
-    pub coll: &'a str,
-    pub eof: bool,
-    pub crc: Option<i64>,
-}
-
-pub fn read_header(alloc: Global, doc: &Doc) -> Result<bool, AllocError>
-    ensures { IfOk result (λ b. b ≡ is_some (result_ok (header_of doc.now))) }
-{
-    Ok(doc.get("version").is_some())
-}
-
-pub fn read_meta(alloc: Global, doc: &Doc) -> Result<Option<(NsName, Text)>, AllocError>
-    ensures { IfOk result (λ o. option_map (λ m. record { ns = m.0; text = m.1 }) o ≡ result_ok (meta_of doc.now)) }
-{
-    Ok(None)
-}
-
-pub fn read_ns_head(bytes: &[u8]) -> Option<NsHead<'_>>
-    requires { fault_in bytes.now ≡ None }
-    ensures { option_map (λ h. record { ns = named h.db.now h.coll.now; eof = h.eof; crc = h.crc }) result ≡ head_in bytes.now }
-{
-    None
 }

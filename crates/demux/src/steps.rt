@@ -6,7 +6,6 @@ ghost use Rattle.archive_format.specs.Archive.{Seen as Entry, goes, closed_entry
 ghost use Rattle.demux.specs.Steps.{stage_of, Quiet, Refused, Notes, Names};
 
 use crate::documents::{checked, head, is_header, metadata};
-use crate::parts::NsHead;
 use crate::progress::Progress;
 use crate::seen::Seen;
 use crate::taker::Halt;

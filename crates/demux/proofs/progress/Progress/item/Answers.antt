@@ -1,4 +1,4 @@
-use Rattle.std.proofs.Common.{◌≡◌, ℕ, ◌≤◌, length, take, drop, subst, ap, Err, inl, inr, arith, rules}
+use Rattle.std.proofs.Common.{◌≡◌, ℕ, take, drop, subst, ap, Err, inl, inr, arith, rules}
 use Rattle.std.specs.Prelude.{None}
 use Rattle.archive_format.specs.Archive.{early, size_of, item_of, Asks}
 use Rattle.archive_format.specs.declared.fault.DemuxFault.TheVariants.{NoMemory}
@@ -17,10 +17,10 @@ returns-in-Err-clause-starved g c = λ h.
     elim (c.in-Err.ensures.starved (ap Err e)) [
       | inl rose ↦ inl rose
       | inr asks ↦ inr (record {
-          item = item_of (take 4 held) (take n held);
-          rest = drop n held;
-          is = b.is;
-          text = b.text;
-          asks = subst (λ (k : ℕ). Asks s (item_of (take 4 held) (take k held))) c.size_of-size.ensures asks;
-        })
+        item = item_of (take 4 held) (take n held);
+        rest = drop n held;
+        is = b.is;
+        text = b.text;
+        asks = subst (λ (k : ℕ). Asks s (item_of (take 4 held) (take k held))) c.size_of-size.ensures asks;
+      })
     ]

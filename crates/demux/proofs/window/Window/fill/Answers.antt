@@ -1,4 +1,4 @@
-use Rattle.std.proofs.Common.{◌≡◌, ◌+◌, ◌-◌, ◌++◌, length, take, drop, refl, sym, ap, subst, ◌∙◌, arith, rules, ℕ, List}
+use Rattle.std.proofs.Common.{◌≡◌, ◌+◌, ◌-◌, ◌++◌, length, take, drop, ap, subst, ◌∙◌, arith, ℕ, List}
 use Rattle.std.proofs.lemmas.List.{take_at}
 use Rattle.demux.specs.Held.{Fills}
 use Rattle.demux.proofs.Buffers.{fills_from}
