@@ -1,0 +1,168 @@
+-- The sum of bytes is linear: what stands in several parts may be shifted part by part.
+use Rattle.std.proofs.Common.{◌≡◌, ℕ, zero, suc, ◌+◌, ◌-◌, ◌*◌, ◌/◌, ◌%◌, ◌^◌, ◌<◌, ◌≤◌, Bool, true, false, cond, eqb, List, [], ◌∷◌, ◌++◌, length, refl, sym, ap, ◌∙◌, subst, arith, inl, inr, eqb-true, eq-eqb, ne_eqb}
+use Rattle.std.proofs.Common.{drop, get_or, slice_index, Fits, w8, w64}
+use Rattle.std.specs.Int.{from_le_bytes}
+use Rattle.std.specs.Prelude.{bit_xor, bit_and, ◌==◌, not, ◌⊎◌}
+use Rattle.std.specs.Int.Bits.{xor_zero_l, xor_zero_r, xor_self, xor_assoc, xor_disjoint, xor_step}
+use Rattle.std.specs.Int.{bit_at}
+use Rattle.std.proofs.lemmas.Nat.{xor_comm, xor_shr, mod-pow-add, pow_pos}
+use Rattle.std.proofs.Math.Nat.{mod-lt}
+use Rattle.std.proofs.lemmas.Nat.Bits.{bit_at_xor, bit_at_lowest, bit_at_cat_low, bit_at_cat_high, bit_at_above, bit_at_and, bit_at-zero, same_from_bits, bit_at-lt}
+use Rattle.std.proofs.lemmas.Bool.{cases_Bool, cases_lt}
+use Rattle.std.proofs.Math.Nat.{pow-suc, mul_assoc}
+use Rattle.archive_format.specs.Crc.{polynomial, shift, crc_step, crc_on}
+use Rattle.archive_blocks.specs.Shifts.{shifts}
+
+-- ---- sums of two
+
+abbrev differ : Bool → Bool → Bool
+differ true b = not b
+differ false b = b
+
+swap_last : (a b c : ℕ) → bit_xor (bit_xor a b) c ≡ bit_xor (bit_xor a c) b
+swap_last a b c = xor_assoc a b c ∙ (ap (λ (x : ℕ). bit_xor a x) (xor_comm b c) ∙ sym (xor_assoc a c b))
+
+twice : (a b c : ℕ) → bit_xor (bit_xor a c) (bit_xor b c) ≡ bit_xor a b
+twice a b c =
+    sym (xor_assoc (bit_xor a c) b c) ∙ (ap (λ (x : ℕ). bit_xor x c) (swap_last a c b) ∙ (xor_assoc (bit_xor a b) c c ∙ (ap (λ (x : ℕ). bit_xor (bit_xor a b) x) (xor_self c) ∙ xor_zero_r (bit_xor a b))))
+
+both : (x y q : ℕ) (a b : Bool) → bit_xor (cond a (bit_xor x q) x) (cond b (bit_xor y q) y) ≡ cond (differ a b) (bit_xor (bit_xor x y) q) (bit_xor x y)
+both x y q true true = twice x y q
+both x y q true false = swap_last x q y
+both x y q false true = sym (xor_assoc x y q)
+both x y q false false = refl
+
+low_bit : (a b : ℕ) → bit_xor a b % 2 ≡ (a % 2 + b % 2) % 2
+low_bit a b = sym (bit_at_lowest (bit_xor a b)) ∙ (bit_at_xor a b 0 ∙ (ap (λ (x : ℕ). (x + bit_at b 0) % 2) (bit_at_lowest a) ∙ ap (λ (x : ℕ). (a % 2 + x) % 2) (bit_at_lowest b)))
+
+test_of : (m n k : ℕ) → m < 2 → n < 2 → k ≡ (m + n) % 2 → (k == 1) ≡ differ (m == 1) (n == 1)
+test_of zero zero k p q e = let z : k ≡ 0 = omega arith in rw z refl
+test_of zero (suc zero) k p q e = let z : k ≡ 1 = omega arith in rw z refl
+test_of (suc zero) zero k p q e = let z : k ≡ 1 = omega arith in rw z refl
+test_of (suc zero) (suc zero) k p q e = let z : k ≡ 0 = omega arith in rw z refl
+test_of zero (suc (suc n)) k p q e = absurd (omega arith)
+test_of (suc zero) (suc (suc n)) k p q e = absurd (omega arith)
+test_of (suc (suc m)) n k p q e = absurd (omega arith)
+
+half : (a b : ℕ) → bit_xor a b / 2 ≡ bit_xor (a / 2) (b / 2)
+half a b = xor_shr a b 1
+
+pub shift_xor : (a b : ℕ) → shift (bit_xor a b) ≡ bit_xor (shift a) (shift b)
+unfolding shift
+shift_xor a b =
+    rw (half a b, test_of (a % 2) (b % 2) (bit_xor a b % 2) (omega arith) (omega arith) (low_bit a b)) (sym (both (a / 2) (b / 2) polynomial (a % 2 == 1) (b % 2 == 1)))
+
+pub shifts_xor : (k a b : ℕ) → shifts k (bit_xor a b) ≡ bit_xor (shifts k a) (shifts k b)
+unfolding shifts
+shifts_xor zero a b = refl
+shifts_xor (suc k) a b = ap (shifts k) (shift_xor a b) ∙ shifts_xor k (shift a) (shift b)
+
+pub shifts_more : (j k n : ℕ) → shifts (j + k) n ≡ shifts k (shifts j n)
+unfolding shifts
+shifts_more zero k n = let z : 0 + k ≡ k = omega arith in ap (λ (m : ℕ). shifts m n) z
+shifts_more (suc j) k n = let z : suc j + k ≡ suc (j + k) = omega arith in ap (λ (m : ℕ). shifts m n) z ∙ shifts_more j k (shift n)
+
+-- zeros leave as they are
+even : (n : ℕ) → shift (n * 2) ≡ n
+unfolding shift
+even n = let t : ((n * 2) % 2 == 1) ≡ false = ne_eqb _ _ (λ e. omega (arith, e)) in rw t (omega arith)
+
+pub shifts_out : (k n : ℕ) → shifts k (n * 2 ^ k) ≡ n
+unfolding shifts
+shifts_out zero n = omega arith
+shifts_out (suc k) n = let z : n * 2 ^ suc k ≡ (n * 2 ^ k) * 2 = ap (λ (m : ℕ). n * m) (pow-suc 2 k) ∙ sym (mul_assoc n (2 ^ k) 2) in ap (λ (m : ℕ). shifts k (shift m)) z ∙ (ap (shifts k) (even (n * 2 ^ k)) ∙ shifts_out k n)
+
+pub shifts_zero : (k : ℕ) → shifts k 0 ≡ 0
+unfolding shifts shift
+shifts_zero zero = refl
+shifts_zero (suc k) = shifts_zero k
+
+-- ---- bytes one after the other
+
+pub eight_shifts : (r b : ℕ) → crc_step r b ≡ shifts 8 (bit_xor r b)
+unfolding crc_step shifts
+eight_shifts r b = refl
+
+-- a number and one in its lowest zeros
+pub cat_xor : (p k b : ℕ) → b < 2 ^ k → bit_xor b (p * 2 ^ k) ≡ p * 2 ^ k + b
+cat_xor p k b l = same_from_bits _ _ (λ i. go i (cases_lt i k)) where
+  zeros : (i : ℕ) → i < k → bit_at (p * 2 ^ k) i ≡ 0
+  zeros i h = ap (λ (m : ℕ). bit_at m i) (let z : p * 2 ^ k ≡ p * 2 ^ k + 0 = omega arith in z) ∙ (bit_at_cat_low p k 0 i h ∙ bit_at-zero i)
+
+  front : (i : ℕ) → k ≤ i → bit_at (p * 2 ^ k) i ≡ bit_at p (i - k)
+  front i h = ap (λ (m : ℕ). bit_at m i) (let z : p * 2 ^ k ≡ p * 2 ^ k + 0 = omega arith in z) ∙ bit_at_cat_high p k 0 i (omega arith) h
+
+  go : (i : ℕ) → (i < k) ⊎ (k ≤ i) → bit_at (bit_xor b (p * 2 ^ k)) i ≡ bit_at (p * 2 ^ k + b) i
+  go i (inl h) = bit_at_xor b (p * 2 ^ k) i ∙ (omega (arith, zeros i h, bit_at-lt b i) ∙ sym (bit_at_cat_low p k b i h))
+  go i (inr h) = bit_at_xor b (p * 2 ^ k) i ∙ (omega (arith, front i h, bit_at_above b k i l h, bit_at-lt p (i - k)) ∙ sym (bit_at_cat_high p k b i l h))
+
+-- the number that bytes write, the lowest first
+abbrev pub packed : List ℕ → ℕ
+packed [] = 0
+packed (b ∷ bs) = packed bs * 2 ^ 8 + b
+
+abbrev pub AreBytes : List ℕ → Type 0
+AreBytes [] = Unit {0}
+AreBytes (b ∷ bs) = (b < 2 ^ 8) × AreBytes bs
+
+pub all_at_once : (bs : List ℕ) (s : ℕ) → AreBytes bs → crc_on s bs ≡ shifts (8 * length bs) (bit_xor s (packed bs))
+unfolding shifts
+all_at_once [] s a = sym (xor_zero_r s)
+all_at_once (b ∷ bs) s a =
+    let n = 8 * length bs in
+    let p = packed bs in
+    let z : 8 + n ≡ 8 * suc (length bs) = omega arith in
+    let one : bit_xor (shifts 8 (bit_xor s b)) p ≡ shifts 8 (bit_xor s (p * 2 ^ 8 + b)) =
+    ap (λ (x : ℕ). bit_xor (shifts 8 (bit_xor s b)) x) (sym (shifts_out 8 p)) ∙ (sym (shifts_xor 8 (bit_xor s b) (p * 2 ^ 8)) ∙ ap (shifts 8) (xor_assoc s b (p * 2 ^ 8) ∙ ap (λ (x : ℕ). bit_xor s x) (cat_xor p 8 b a.0))) in
+    ap (λ (r : ℕ). crc_on r bs) (eight_shifts s b) ∙ (all_at_once bs (shifts 8 (bit_xor s b)) a.1 ∙ (ap (shifts n) one ∙ (sym (shifts_more 8 n _) ∙ ap (λ (k : ℕ). shifts k (bit_xor s (p * 2 ^ 8 + b))) z)))
+
+-- ---- half bytes of a number
+
+pub half_more : (y j : ℕ) → y % 2 ^ (4 * (j + 1)) ≡ (y / 2 ^ (4 * j) % 16) * 2 ^ (4 * j) + y % 2 ^ (4 * j)
+half_more y j = let k : 4 * (j + 1) ≡ 4 + 4 * j = omega arith in ap (λ (m : ℕ). y % 2 ^ m) k ∙ mod-pow-add y 4 (4 * j)
+
+pub halves_step : (y j table sum : ℕ) → j < 16 → table ≡ shifts (4 * (15 - j + 1)) (y / 2 ^ (4 * j) % 16) → sum ≡ shifts 64 (y % 2 ^ (4 * j)) → bit_xor sum table ≡ shifts 64 (y % 2 ^ (4 * (j + 1)))
+halves_step y j table sum l is before =
+    let n = y / 2 ^ (4 * j) % 16 in
+    let k : 4 * j + 4 * (15 - j + 1) ≡ 64 = omega arith in
+    let moved : shifts 64 (n * 2 ^ (4 * j)) ≡ shifts (4 * (15 - j + 1)) n =
+    ap (λ (m : ℕ). shifts m (n * 2 ^ (4 * j))) (sym k) ∙ (shifts_more (4 * j) (4 * (15 - j + 1)) (n * 2 ^ (4 * j)) ∙ ap (shifts (4 * (15 - j + 1))) (shifts_out (4 * j) n)) in
+    ap (λ (x : ℕ). bit_xor x table) before ∙ (ap (λ (x : ℕ). bit_xor (shifts 64 (y % 2 ^ (4 * j))) x) (is ∙ sym moved)
+    ∙ (sym (shifts_xor 64 (y % 2 ^ (4 * j)) (n * 2 ^ (4 * j))) ∙ ap (shifts 64) (cat_xor n (4 * j) (y % 2 ^ (4 * j)) (mod-lt y (pow_pos (4 * j))) ∙ sym (half_more y j))))
+
+pub half_leaves : (n : ℕ) → bit_xor (n / 16) (shifts 4 (n % 16)) ≡ shifts 4 n
+half_leaves n =
+    let whole : bit_xor (n % 16) (n / 16 * 2 ^ 4) ≡ n = cat_xor (n / 16) 4 (n % 16) (omega arith) ∙ omega arith in
+    xor_comm (n / 16) (shifts 4 (n % 16)) ∙ (ap (λ (x : ℕ). bit_xor (shifts 4 (n % 16)) x) (sym (shifts_out 4 (n / 16))) ∙ (sym (shifts_xor 4 (n % 16) (n / 16 * 2 ^ 4)) ∙ ap (shifts 4) whole))
+
+pub no_bits : (n : ℕ) → 0 ≡ shifts 64 (n % 1)
+no_bits n = sym (ap (shifts 64) (let z : n % 1 ≡ 0 = omega arith in z) ∙ shifts_zero 64)
+
+-- ---- eight bytes as one number
+
+unroll_at : (k : ℕ) (xs : List ℕ) → packed (drop k xs) ≡ packed (drop (suc k) xs) * 2 ^ 8 + slice_index xs k
+unroll_at zero [] = omega arith
+unroll_at zero (x ∷ xs) = refl
+unroll_at (suc k) [] = omega arith
+unroll_at (suc k) (x ∷ xs) = unroll_at k xs
+
+none_left : (xs : List ℕ) (k : ℕ) → length xs ≤ k → packed (drop k xs) ≡ 0
+none_left [] zero l = refl
+none_left [] (suc k) l = refl
+none_left (x ∷ xs) zero l = absurd (omega arith)
+none_left (x ∷ xs) (suc k) l = none_left xs k (omega arith)
+
+pub eight_packed : (xs : List ℕ) → length xs ≡ 8 → packed xs ≡ from_le_bytes w64 xs
+eight_packed xs l = omega (arith, unroll_at 0 xs, unroll_at 1 xs, unroll_at 2 xs, unroll_at 3 xs, unroll_at 4 xs, unroll_at 5 xs, unroll_at 6 xs, unroll_at 7 xs, none_left xs 8 (omega (arith, l)))
+
+pub are_bytes : (xs : List ℕ) → ((i : ℕ) → Fits w8 (get_or xs i 0)) → AreBytes xs
+are_bytes [] h = tt
+are_bytes (x ∷ xs) h = ((h zero).fits, are_bytes xs (λ i. h (suc i)))
+
+pub eight_at_once : (xs : List ℕ) (s : ℕ) → AreBytes xs → length xs ≡ 8 → shifts 64 (bit_xor s (from_le_bytes w64 xs)) ≡ crc_on s xs
+eight_at_once xs s a l = sym (all_at_once xs s a ∙ (ap (λ (n : ℕ). shifts (8 * n) (bit_xor s (packed xs))) l ∙ ap (λ (n : ℕ). shifts 64 (bit_xor s n)) (eight_packed xs l)))
+
+-- bytes in two parts
+pub after_both : (xs ys : List ℕ) (s : ℕ) → crc_on s (xs ++ ys) ≡ crc_on (crc_on s xs) ys
+after_both [] ys s = refl
+after_both (x ∷ xs) ys s = after_both xs ys (crc_step s x)

@@ -1,0 +1,8 @@
+//! The blocks of an archive.
+#![tactic(auto)]
+
+mod crc;
+#[cfg(test)]
+mod tests;
+
+pub use crc::Crc;

@@ -1,0 +1,15 @@
+pub mod Replay
+pub mod Cover
+pub mod Frame
+pub mod Done
+pub mod Order
+pub mod PlayedLaws
+pub mod Agreement
+pub mod Places
+pub mod Indexes
+pub mod Decimals
+pub mod Steps
+pub mod Down
+pub mod Changed
+pub mod Emptied
+pub mod Named

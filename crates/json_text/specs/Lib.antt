@@ -1,0 +1,4 @@
+pub mod formers
+pub mod Reading
+pub mod Pieces
+pub mod Print

@@ -1,0 +1,15 @@
+-- What a piece of a string adds to it.
+use Rattle.std.specs.Prelude.{ℕ, Bool, true, false, List, [], ◌∷◌}
+use Rattle.std.specs.Char.{encode_utf8}
+use Rattle.json_text.specs.declared.tokens.Piece.{Piece}
+use Rattle.json_text.specs.declared.tokens.Piece.TheVariants as pieces
+
+abbrev pub bytes_of : Piece → List ℕ
+bytes_of (pieces.Byte b) = b ∷ []
+bytes_of (pieces.Char c) = encode_utf8 c
+bytes_of pieces.End = []
+
+-- whether another piece follows
+abbrev pub goes_on : Piece → Bool
+goes_on pieces.End = false
+goes_on _ = true

@@ -1,0 +1,19 @@
+//! JSON in the order of its text: values, reading, printing.
+#![tactic(auto)]
+
+mod copy;
+mod fault;
+mod members;
+mod printing;
+mod reading;
+#[cfg(test)]
+mod tests;
+mod tokens;
+mod tree;
+
+pub use containers::{List as JList, Text as JText};
+pub use fault::JsonFault;
+pub use members::Members;
+pub use printing::print;
+pub use reading::parse;
+pub use tree::{Fields, Tree};

@@ -1,0 +1,4 @@
+pub mod Literals
+pub mod Matches
+pub mod Reading
+pub mod Search

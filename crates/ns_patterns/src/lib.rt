@@ -1,0 +1,9 @@
+//! Patterns of names: which namespaces they take, and what they rename them to.
+#![tactic(auto)]
+
+mod joined;
+mod pattern;
+#[cfg(test)]
+mod tests;
+
+pub use pattern::{Pattern, PatternFault};
