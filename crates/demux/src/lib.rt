@@ -4,7 +4,6 @@
 mod documents;
 mod heads;
 mod items;
-mod parts;
 mod prelude;
 mod progress;
 mod run;

@@ -4,7 +4,7 @@ ghost use Rattle.archive_format.specs.Crc.{crc_start, crc_on, crc_end};
 ghost use Rattle.archive_format.specs.Shapes.{named};
 ghost use Rattle.archive_format.specs.Archive.{same_ns};
 
-use crate::parts::Crc;
+use archive_blocks::Crc;
 use bson_value::NsName;
 use std::marker::Model;
 
