@@ -149,6 +149,16 @@ shape p at bytes long none le = let word = take 4 bytes in elim (cases_Bool (is_
   ]
 ]
 
+-- what four bytes that are no fault begin, where it is held whole
+pub record Begins (word bytes : List ℕ) : Type 0 where
+  pub is : IsItem (item_of word (take (size_of word) bytes))
+  pub text : bytes ≡ text_of (item_of word (take (size_of word) bytes)) ++ drop (size_of word) bytes
+
+pub begins : (p : Place) (at : ℕ) (bytes : List ℕ) → 4 ≤ length bytes → early p at (take 4 bytes) ≡ None → size_of (take 4 bytes) ≤ length bytes → Begins (take 4 bytes) bytes
+begins p at bytes long none le =
+    let s = shape p at bytes long none le in
+    record { is = s.is; text = sym (ap (λ z. z ++ drop (size_of (take 4 bytes)) bytes) s.text ∙ take-append-drop (size_of (take 4 bytes)) bytes) }
+
 pub item_found : (s : Stage) (at : ℕ) (bytes : List ℕ) (m : Stage) (one : List Taking) (n : ℕ) → next s at bytes ≡ onward m one n → Meets s at bytes m one n
 unfolding next
 item_found s at bytes m one n h = elim (cases_lt (length bytes) 4) [

@@ -1,5 +1,5 @@
 -- An archive: its items, what the grammar makes of them one after the other, and the fault that is met.
-use Rattle.std.specs.Prelude.{⊤, ℕ, ◌≡◌, ◌+◌, ◌≤◌, List, [], ◌∷◌, ◌++◌, length, take, set, map, flat_map, filter, Bool, true, false, ◌||◌, ◌&&◌, Option, Some, None, Result, Ok, Err, if◌then◌else◌, ◌==◌, nat_lt, slice_get, bytes_eq, is_some}
+use Rattle.std.specs.Prelude.{⊤, ℕ, ℤ, ◌≡◌, ◌+◌, ◌≤◌, List, [], ◌∷◌, ◌++◌, length, take, set, map, flat_map, filter, Bool, true, false, ◌||◌, ◌&&◌, Option, Some, None, Result, Ok, Err, if◌then◌else◌, ◌==◌, nat_lt, slice_get, bytes_eq, is_some}
 use Rattle.std.specs.Int.{w32, w64, from_le_bytes, cast_unsigned}
 use Rattle.std.specs.List.{position_from}
 use Rattle.std.specs.Result.{result_err, result_ok}
@@ -113,19 +113,21 @@ meta_step s at None = bad (BadPrelude at)
 meta_step s at (Some m) = if is_oplog m.ns then goes s [] else (if is_some (meta_place m.ns s.metas) then bad (BadPrelude at) else goes (record s { metas = s.metas ++ m.ns ∷ [] }) (meta m.ns m.text ∷ []))
 
 -- the bits of the checksum that an end says
-abbrev pub said_by : Head → Option ℕ
-said_by h = elim h.crc [ None ↦ None | Some z ↦ Some (cast_unsigned w64 z) ]
+abbrev pub bits_of : Option ℤ → Option ℕ
+bits_of None = None
+bits_of (Some z) = Some (cast_unsigned w64 z)
 
-abbrev pub behind : Head → ℕ → Place
-behind h i = if h.eof then Ending i (said_by h) else Inside i
+-- behind a header of the namespace with this number
+abbrev pub behind : Bool → Option ℤ → ℕ → Place
+behind eof crc i = if eof then Ending i (bits_of crc) else Inside i
 
-abbrev pub opened_entry : Stage → ℕ → Head → ℕ → Option Seen → Verdict
-opened_entry s at h i None = bad (BadHeader at)
-opened_entry s at h i (Some e) = if e.ended then bad (AfterEnd e.ns at) else goes (record s { place = behind h i }) []
+abbrev pub opened_entry : Stage → ℕ → Place → Option Seen → Verdict
+opened_entry s at next None = bad (BadHeader at)
+opened_entry s at next (Some e) = if e.ended then bad (AfterEnd e.ns at) else goes (record s { place = next }) []
 
 abbrev pub opened : Stage → ℕ → Head → Option ℕ → Verdict
-opened s at h None = goes (record { place = behind h (length s.seen); metas = s.metas; seen = s.seen ++ record { ns = h.ns; sum = crc_start; ended = false } ∷ [] }) []
-opened s at h (Some i) = opened_entry s at h i (slice_get s.seen i)
+opened s at h None = goes (record { place = behind h.eof h.crc (length s.seen); metas = s.metas; seen = s.seen ++ record { ns = h.ns; sum = crc_start; ended = false } ∷ [] }) []
+opened s at h (Some i) = opened_entry s at (behind h.eof h.crc i) (slice_get s.seen i)
 
 unfoldable pub head_step : Stage → ℕ → Option Head → Verdict
 head_step s at None = bad (BadHeader at)

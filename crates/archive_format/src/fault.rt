@@ -1,7 +1,11 @@
 //! Why bytes are no archive.
 
+ghost use Rattle.std.specs.Prelude.{◌≡◌};
+ghost use Rattle.archive_format.specs.declared.fault.DemuxFault.TheVariants.{NoMemory};
+
 use bson_check::BsonKind;
 use bson_value::NsName;
+use std::alloc::{AllocError, AllocFailed};
 
 /// Why an archive wasn't taken. `at` is the place of the first byte of the item that was looked at.
 #[derive(Debug, Drop)]
@@ -32,4 +36,20 @@ pub enum DemuxFault {
     TooLong,
     /// There was no memory.
     NoMemory,
+}
+
+impl From<AllocError> for DemuxFault {
+    ghost from_gives = { λ _ e. e ≡ NoMemory };
+
+    fn from(_e: AllocError) -> DemuxFault {
+        DemuxFault::NoMemory
+    }
+}
+
+impl<T: Drop> From<AllocFailed<T>> for DemuxFault {
+    ghost from_gives = { λ _ e. e ≡ NoMemory };
+
+    fn from(_e: AllocFailed<T>) -> DemuxFault {
+        DemuxFault::NoMemory
+    }
 }

@@ -1,0 +1,9 @@
+pub mod Takings
+pub mod Seats
+pub mod Buffers
+pub mod Begin
+pub mod Turn
+pub mod Sight
+pub mod Jumps
+pub mod Elements
+pub mod Typed

@@ -1,0 +1,143 @@
+-- What one turn does to what is known of the whole input.
+use Rattle.std.proofs.Common.{◌≡◌, inl, inr, ℕ, ◌+◌, ◌-◌, ◌<◌, ◌≤◌, Bool, false, ltb, List, [], ◌∷◌, ◌++◌, length, take, drop, refl, ap, subst, ◌∙◌, append_assoc, arith}
+use Rattle.std.specs.Prelude.{None, Some, Option}
+use Rattle.std.proofs.lemmas.List.{append-nil, length-take}
+use Rattle.std.proofs.lemmas.Bool.{le-ltb, cases_lt, cases_Bool}
+use Rattle.std.specs.Io.KnownBytes.{Consumes, IsAtEnd}
+use Rattle.archive_format.specs.declared.fault.DemuxFault.{DemuxFault}
+use Rattle.archive_format.specs.declared.fault.DemuxFault.TheVariants as faults
+use Rattle.archive_format.specs.Archive.{Taking, Stage, Verdict, goes, bad, short, onward, wrong, next, unless_early, judged, step, item_of, limit, ending, early, size_of, is_stop, is_magic, EndsOf}
+use Rattle.demux.specs.Takes.{Took}
+use Rattle.demux.specs.Steps.{Stuck, Refused}
+use Rattle.demux.specs.Told.{Holds, Stands, Whole, Part, Stop, Tells_fault, Fault_told, End_told}
+use Rattle.archive_format.proofs.Fronts.{early_fits, item_found, met_length}
+use Rattle.demux.proofs.Takings.{took_join}
+use Rattle.demux.proofs.Sight.{fault_found, too_long, ends_short, first_of_all, goes_on, filled}
+
+module _ (keep : Taking → Bool) (before old new : Option (List Taking)) (s : Stage) (at : ℕ) (held : List ℕ) where
+  pub item_taken : (first now : Option (List ℕ)) (m : Stage) (one : List Taking) (n : ℕ) → Stands first now s at held keep before old → next s at (take (limit - at) held) ≡ onward m one n → Took keep old new one
+      → Stands first now m (at + n) (drop n held) keep before new
+  item_taken None now m one n h e t = record { given = h.given ++ one; watch = tt; took = took_join keep before old new h.given one h.took t }
+  item_taken (Some all) None m one n h e t = absurd h.watch
+  item_taken (Some all) (Some left) m one n h e t =
+      record { given = h.given ++ one; watch = (goes_on all s at held left h.given h.watch m one n e).2; took = took_join keep before old new h.given one h.took t }
+
+  took_same : (given : List Taking) → Took keep before old given → Took keep old new [] → Took keep before new given
+  took_same given p q = subst (Took keep before new) (append-nil given) (took_join keep before old new given [] p q)
+
+  pub stands_kept : (first now : Option (List ℕ)) → Stands first now s at held keep before old → Took keep old new [] → Stands first now s at held keep before new
+  stands_kept first now h t = record { given = h.given; watch = h.watch; took = took_same h.given h.took t }
+
+  whole : (all left : List ℕ) (f : DemuxFault) (given : List Taking) → Holds all s at held left given → next s at (take (limit - at) held) ≡ wrong f → Took keep before old given → Took keep old new [] → Whole all (Some f) keep before new
+  whole all left f given h e p q = record { given = given; ends = fault_found all s at held left given h f e; took = took_same given p q }
+
+  part : (all left : List ℕ) (given : List Taking) → Holds all s at held left given → Took keep before old given → Took keep old new [] → Part all keep before new
+  part all left given h p q = let k = first_of_all all s at held left given h in record { given = given; more = k.0; fault = k.1; ends = k.2; took = took_same given p q }
+
+  stop : (all left : List ℕ) (given : List Taking) (t : Stage) (one : Taking) (n : ℕ) → Holds all s at held left given → next s at (take (limit - at) held) ≡ onward t (one ∷ []) n → Took keep before old given → Took keep old new [] → Stop all keep before new
+  stop all left given t one n h e p q =
+      let on = (goes_on all s at held left given h t (one ∷ []) n e).2 in
+      let k = first_of_all all t (at + n) (drop n held) left (given ++ (one ∷ [])) on in
+      record { given = given; refused = one; more = k.0; fault = k.1; ends = subst (λ z. EndsOf all z k.1) (append_assoc given (one ∷ []) k.0) k.2; took = took_same given p q }
+
+  known_stuck : (all left : List ℕ) (f : DemuxFault) (given : List Taking) → Holds all s at held left given → Took keep before old given → Stuck f (next s at (take (limit - at) held)) keep old new → Tells_fault f all keep before new
+  known_stuck all left faults.NoMemory given h p u = part all left given h p u
+  known_stuck all left faults.ReadFault given h p u = absurd u
+  known_stuck all left faults.Stopped given h p u = stop all left given u.0 u.1 u.2 h u.3 p u.4
+  known_stuck all left faults.BadMagic given h p u = whole all left _ given h u.0 p u.1
+  known_stuck all left (faults.Truncated a) given h p u = whole all left _ given h u.0 p u.1
+  known_stuck all left (faults.BadBson a k) given h p u = whole all left _ given h u.0 p u.1
+  known_stuck all left (faults.BadPrelude a) given h p u = whole all left _ given h u.0 p u.1
+  known_stuck all left (faults.BadHeader a) given h p u = whole all left _ given h u.0 p u.1
+  known_stuck all left (faults.AfterEnd n a) given h p u = whole all left _ given h u.0 p u.1
+  known_stuck all left (faults.DocsInEnd a) given h p u = whole all left _ given h u.0 p u.1
+  known_stuck all left (faults.Crc n a b) given h p u = whole all left _ given h u.0 p u.1
+  known_stuck all left (faults.NotEnded n) given h p u = whole all left _ given h u.0 p u.1
+  known_stuck all left faults.TooLong given h p u = whole all left _ given h u.0 p u.1
+
+  pub item_stuck : (first now : Option (List ℕ)) (f : DemuxFault) → Stands first now s at held keep before old → Stuck f (next s at (take (limit - at) held)) keep old new → Fault_told f first keep before new
+  item_stuck None now f h u = tt
+  item_stuck (Some all) None f h u = absurd h.watch
+  item_stuck (Some all) (Some left) f h u = known_stuck all left f h.given h.watch h.took u
+
+  pub far_told : (first now : Option (List ℕ)) → Stands first now s at held keep before old → next s at (take (limit - at) held) ≡ short → limit < at + length held → Took keep old new [] → Fault_told faults.TooLong first keep before new
+  far_told None now h e far t = tt
+  far_told (Some all) None h e far t = absurd h.watch
+  far_told (Some all) (Some left) h e far t = record { given = h.given; ends = too_long all s at held left h.given h.watch e far; took = took_same h.given h.took t }
+
+  pub more_held : (first now later : Option (List ℕ)) (bs : List ℕ) → Stands first now s at held keep before old → Consumes now later bs → Took keep old new [] → Stands first later s at (held ++ bs) keep before new
+  more_held None now later bs h c t = record { given = h.given; watch = tt; took = took_same h.given h.took t }
+  more_held (Some all) None later bs h c t = absurd h.watch
+  more_held (Some all) (Some left) None bs h c t = absurd c
+  more_held (Some all) (Some left) (Some after) bs h c t = record { given = h.given; watch = filled all s at held bs left after h.given h.watch c; took = took_same h.given h.took t }
+
+  pub read_failed : (first now later : Option (List ℕ)) → Stands first now s at held keep before old → Took keep old new [] → Fault_told faults.ReadFault first keep before new
+  read_failed None now later h t = tt
+  read_failed (Some all) None later h t = absurd h.watch
+  read_failed (Some all) (Some left) later h t = part all left h.given h.watch h.took t
+
+  done_known : (all left : List ℕ) (e : Option DemuxFault) (given : List Taking) → Holds all s at held left given → next s at held ≡ short → at + length held ≤ limit → left ≡ [] → ending false s at held ≡ e → Took keep before old given → Took keep old new [] → Whole all e keep before new
+  done_known all left e given h x near none is p q = record { given = given; ends = subst (λ z. EndsOf all given z) is (ends_short all s at held left given h x near none); took = took_same given p q }
+
+  refused_told : (all : List ℕ) (f : DemuxFault) → Refused f (bad f) → Part all keep before new → Whole all (Some f) keep before new → Tells_fault f all keep before new
+  refused_told all faults.NoMemory r p w = p
+  refused_told all faults.ReadFault r p w = p
+  refused_told all faults.Stopped r p w = absurd r
+  refused_told all faults.BadMagic r p w = w
+  refused_told all (faults.Truncated a) r p w = w
+  refused_told all (faults.BadBson a k) r p w = w
+  refused_told all (faults.BadPrelude a) r p w = w
+  refused_told all (faults.BadHeader a) r p w = w
+  refused_told all (faults.AfterEnd n a) r p w = w
+  refused_told all (faults.DocsInEnd a) r p w = w
+  refused_told all (faults.Crc n a b) r p w = w
+  refused_told all (faults.NotEnded n) r p w = w
+  refused_told all faults.TooLong r p w = w
+
+  -- the end of the input, behind less than an item
+  pub end_refused : (first now later : Option (List ℕ)) (f : DemuxFault) → Stands first now s at held keep before old → next s at held ≡ short → at + length held ≤ limit → Consumes now later [] → IsAtEnd later → ending false s at held ≡ Some f → Refused f (bad f) → Took keep old new [] → Fault_told f first keep before new
+  end_refused None now later f h x near c z is r t = tt
+  end_refused (Some all) None later f h x near c z is r t = absurd h.watch
+  end_refused (Some all) (Some left) None f h x near c z is r t = absurd c
+  end_refused (Some all) (Some left) (Some after) f h x near c z is r t =
+      refused_told all f r (part all left h.given h.watch h.took t) (done_known all left (Some f) h.given h.watch x near (c ∙ z) is h.took t)
+
+  pub end_accepted : (first now later : Option (List ℕ)) → Stands first now s at held keep before old → next s at held ≡ short → at + length held ≤ limit → Consumes now later [] → IsAtEnd later → ending false s at held ≡ None → Took keep old new [] → End_told first later keep before new
+  end_accepted None now later h x near c z is t = tt
+  end_accepted (Some all) None later h x near c z is t = absurd h.watch
+  end_accepted (Some all) (Some left) None h x near c z is t = absurd c
+  end_accepted (Some all) (Some left) (Some after) h x near c z is t = (ap Some z, done_known all left None h.given h.watch x near (c ∙ z) is h.took t)
+
+pub item_size : (s : Stage) (at : ℕ) (held : List ℕ) (k : ℕ) (m : Stage) (one : List Taking) (n : ℕ) → next s at (take k held) ≡ onward m one n → (4 ≤ n) × (n ≤ length held) × (n ≤ k)
+item_size s at held k m one n e =
+    let len = met_length s at (take k held) m one n (item_found s at (take k held) m one n e) in
+    (len.0, omega (arith, len.1, length-take k held), omega (arith, len.1, length-take k held))
+
+verdict_short : (n : ℕ) (v : Verdict) → judged n v ≡ short → ⊥
+verdict_short n (goes t ts) e = cc
+verdict_short n (bad f) e = cc
+
+size_fits : (s : Stage) (at : ℕ) (word : List ℕ) → early s.place at word ≡ None → size_of word ≤ 16793600
+unfolding size_of
+size_fits s at word e = elim (cases_Bool (is_stop word)) [
+  | inl y ↦ rw y (omega arith)
+  | inr n ↦ elim (cases_Bool (is_magic word)) [
+    | inl y ↦ rw (n, y) (omega arith)
+    | inr nm ↦ rw (n, nm) (early_fits s.place at word n nm e).1
+  ]
+]
+
+short_by : (s : Stage) (at : ℕ) (bytes word : List ℕ) (x : Option DemuxFault) → early s.place at word ≡ x → unless_early s at bytes word x ≡ short → length bytes < 16793600
+short_by s at bytes word (Some f) is e = absurd (cc)
+short_by s at bytes word None is e = elim (cases_lt (length bytes) (size_of word)) [
+  | inl lt ↦ omega (arith, lt, size_fits s at word is)
+  | inr le ↦ absurd (let a : ltb (length bytes) (size_of word) ≡ false = le-ltb _ _ le in verdict_short (size_of word) (step s at (item_of word (take (size_of word) bytes))) (rw a at e))
+]
+
+-- less than an item is less than the window holds
+pub short_fits : (s : Stage) (at : ℕ) (bytes : List ℕ) → next s at bytes ≡ short → length bytes < 16793600
+unfolding next
+short_fits s at bytes e = elim (cases_lt (length bytes) 4) [
+  | inl lt ↦ omega arith
+  | inr le ↦ (let a : ltb (length bytes) 4 ≡ false = le-ltb _ _ le in short_by s at bytes (take 4 bytes) (early s.place at (take 4 bytes)) refl (rw a at e))
+]

@@ -1,0 +1,5 @@
+pub mod Found
+pub mod Held
+pub mod Steps
+pub mod Takes
+pub mod Told

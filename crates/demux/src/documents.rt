@@ -1,0 +1,75 @@
+//! The documents of an archive, read from their bytes.
+ghost use Rattle.std.specs.Prelude.{◌≡◌, ⊤, List, Option, Some, None, Ok, IfOk, IfErr, OnOk, option_map, is_some};
+ghost use Rattle.archive_format.specs.Shapes.{named};
+ghost use Rattle.archive_format.specs.Archive.{header_in, metadata_in, head_in, fault_in, fields_of};
+ghost use Rattle.demux.specs.Steps.{Unread};
+
+use crate::heads::{NsHead, read_ns_head};
+use crate::prelude;
+use archive_format::DemuxFault;
+use bson_core::{BsonFault, DecodeFault, Doc, MAX_DOCUMENT_BYTES, NsName, Text, check, decode};
+use std::alloc::Global;
+
+// The most levels of a document.
+const MAX_LEVELS: usize = 200;
+
+/// The bytes are a document.
+#[tactic(auto, unfolding(archive_format::specs::Archive::fault_in, archive_format::specs::Archive::fields_of, bson_check::specs::Faults::first_fault))]
+pub fn checked(at: u64, bytes: &[u8]) -> Result<(), DemuxFault>
+    ensures ok { OnOk result (fault_in bytes.now ≡ None) }
+    ensures err { IfErr result (λ f. Unread f at (fault_in bytes.now)) }
+    ensures fed { IfErr result (λ f. f ≡ DemuxFault.NoMemory → ⊥) }
+{
+    match check(bytes, MAX_DOCUMENT_BYTES, MAX_LEVELS) {
+        Ok(()) => Ok(()),
+        Err(fault) => Err(DemuxFault::BadBson {
+            at,
+            kind: fault.kind,
+        }),
+    }
+}
+
+#[tactic(auto, unfolding(archive_format::specs::Archive::fault_in, archive_format::specs::Archive::fields_of, bson_check::specs::Faults::first_fault))]
+fn decoded(alloc: Global, at: u64, bytes: &[u8]) -> Result<Doc, DemuxFault>
+    ensures ok { IfOk result (λ doc. fields_of bytes.now ≡ Ok doc) }
+    ensures err { IfErr result (λ f. Unread f at (fault_in bytes.now)) }
+{
+    match decode(alloc, bytes, MAX_DOCUMENT_BYTES, MAX_LEVELS) {
+        Ok(doc) => Ok(doc),
+        Err(DecodeFault::NoMemory) => Err(DemuxFault::NoMemory),
+        Err(DecodeFault::Bad(fault)) => Err(DemuxFault::BadBson {
+            at,
+            kind: fault.kind,
+        }),
+    }
+}
+
+/// Whether the bytes are a header.
+#[tactic(auto, unfolding(archive_format::specs::Archive::fault_in, archive_format::specs::Archive::header_in))]
+pub fn is_header(alloc: Global, at: u64, bytes: &[u8]) -> Result<bool, DemuxFault>
+    ensures ok { IfOk result (λ b. (fault_in bytes.now ≡ None) × (is_some (header_in bytes.now) ≡ b)) }
+    ensures err { IfErr result (λ f. Unread f at (fault_in bytes.now)) }
+{
+    let doc = decoded(alloc, at, bytes)?;
+    Ok(prelude::is_header(&doc))
+}
+
+/// The namespace and the text, if the bytes are metadata.
+#[tactic(auto, unfolding(archive_format::specs::Archive::fault_in, archive_format::specs::Archive::metadata_in))]
+pub fn metadata(alloc: Global, at: u64, bytes: &[u8]) -> Result<Option<(NsName, Text)>, DemuxFault>
+    ensures ok { IfOk result (λ o. (fault_in bytes.now ≡ None) × (metadata_in bytes.now ≡ option_map (λ m. record { ns = m.0; text = m.1 }) o)) }
+    ensures err { IfErr result (λ f. Unread f at (fault_in bytes.now)) }
+{
+    let doc = decoded(alloc, at, bytes)?;
+    Ok(prelude::read_meta(alloc, &doc)?)
+}
+
+/// What a block's header says, if the bytes are one. It takes no memory.
+pub fn head(at: u64, bytes: &[u8]) -> Result<Option<NsHead<'_>>, DemuxFault>
+    ensures ok { IfOk result (λ o. (fault_in bytes.now ≡ None) × (head_in bytes.now ≡ option_map (λ h. record { ns = named h.db.now h.coll.now; eof = h.eof; crc = h.crc }) o)) }
+    ensures err { IfErr result (λ f. Unread f at (fault_in bytes.now)) }
+    ensures fed { IfErr result (λ f. f ≡ DemuxFault.NoMemory → ⊥) }
+{
+    checked(at, bytes)?;
+    Ok(read_ns_head(bytes))
+}

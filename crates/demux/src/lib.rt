@@ -1,0 +1,19 @@
+//! An archive is taken apart as it is read.
+#![tactic(auto)]
+
+mod documents;
+mod heads;
+mod items;
+mod prelude;
+mod progress;
+mod run;
+mod seen;
+mod steps;
+mod taker;
+mod window;
+
+pub use archive_format::DemuxFault;
+pub use progress::Progress;
+pub use run::Demux;
+pub use seen::Seen;
+pub use taker::{DocTaker, Halt};

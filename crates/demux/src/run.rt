@@ -1,0 +1,188 @@
+//! An archive, from its first byte to its last.
+ghost use Rattle.std.specs.Prelude.{◌≡◌, ◌⊎◌, ℕ, ◌^◌, false, ◌+◌, ◌-◌, ◌<◌, ◌≤◌, List, [], Bool, length, take, Option, Some, None, OnOk, OnErr, IsErrOf, IfErr, IfOk, IfSome, MatchOption, slice_get};
+ghost use Rattle.std.specs.Io.KnownBytes.{Keeps};
+ghost use Rattle.tool_io.specs.Causes.{Rose};
+ghost use Rattle.archive_format.specs.Archive.{Taking, Seen as Entry, start, ending, open_of, limit, next, short};
+ghost use Rattle.demux.specs.Steps.{stage_of, Closes};
+ghost use Rattle.demux.specs.Told.{Ahead_told, Asked_told, Stands, Turns, Tells};
+
+use crate::progress::Progress;
+use crate::seen::Seen;
+use crate::taker::DocTaker;
+use crate::window::Window;
+use archive_format::{DemuxFault, Place};
+use bson_core::MAX_DOCUMENT_BYTES;
+use std::alloc::{AllocError, Global};
+use tool_io::Source;
+
+// The place of the first namespace that wasn't ended.
+fn first_open(seen: &[Seen]) -> Option<usize>
+    ensures { MatchOption result (open_of seen.now ≡ None) (λ i. (e : Entry) × (slice_get seen.now i ≡ Some e) × (open_of seen.now ≡ Some (DemuxFault.NotEnded e.ns))) }
+{
+    let mut i = 0;
+    'entries: while i < seen.len() {
+        if !seen[i].has_ended() {
+            return Some(i);
+        }
+        i += 1;
+    }
+    None
+}
+
+/// How an input ends that isn't beyond the limit.
+#[tactic(auto, unfolding(archive_format::specs::Archive::ending))]
+fn ending(progress: &mut Progress, at: u64, held: &[u8]) -> Result<(), DemuxFault>
+    requires { at + length held.now < 2 ^ 64 }
+    ensures closes { Closes result (ending false (stage_of progress.old) at held.now) }
+    ensures fed { IfErr result (λ f. f ≡ DemuxFault.NoMemory → ⊥) }
+{
+    if held.is_empty() && matches!(progress.place, Place::Blocks) {
+        return match first_open(&progress.seen) {
+            None => Ok(()),
+            Some(i) => Err(DemuxFault::NotEnded {
+                ns: progress.seen.swap_remove(i).into_ns(),
+            }),
+        };
+    }
+    Err(DemuxFault::Truncated {
+        at: at + held.len() as u64,
+    })
+}
+
+// The most bytes of an archive.
+const LIMIT: u64 = 281474976710656;
+
+// What is held of the window, as far as the limit.
+fn within(held: &[u8], room: u64) -> &[u8]
+    ensures { result.now ≡ take room held.now }
+{
+    if room < held.len() as u64 {
+        &held[..room as usize]
+    } else {
+        held
+    }
+}
+
+// No item is held whole: bytes are read behind what is held. The place where it goes on; none at the end.
+fn more<S: Source>(
+    window: &mut Window,
+    progress: &mut Progress,
+    at: u64,
+    source: &mut S,
+) -> Result<Option<u64>, DemuxFault>
+    requires within { at ≤ limit }
+    requires size { window.old.size ≡ 16793600 }
+    requires short { next (stage_of progress.old) at (take (limit - at) window.old.bytes) ≡ short }
+    ensures room { OnOk result (length window.new.bytes ≤ 16793600) }
+    ensures turns { (first : Option (List ℕ)) (keep : Taking → Bool) (before kept : Option (List Taking)) → Stands first (S.left source.old) (stage_of progress.old) at window.old.bytes keep before kept
+        → Turns result first (S.left source.new) (stage_of progress.new) window.new.bytes keep before kept }
+    ensures size { window.new.size ≡ window.old.size }
+    ensures on { IfOk result (λ r. IfSome r (λ b. (b ≡ at) × (length window.old.bytes < length window.new.bytes))) }
+    ensures read_fault { IsErrOf result DemuxFault.ReadFault → Rose (S.faults source.old) (S.faults source.new) }
+    ensures still { OnErr result (Keeps (S.left source.old) (S.left source.new)) }
+    ensures not_stopped { IsErrOf result DemuxFault.Stopped → ⊥ }
+    ensures fed { IsErrOf result DemuxFault.NoMemory → ⊥ }
+    ensures later { S.faults source.old ≤ S.faults source.new }
+{
+    let seen = window.held().len() as u64;
+    if LIMIT - at < seen {
+        return Err(DemuxFault::TooLong);
+    }
+    match window.fill(source) {
+        Err(_) => Err(DemuxFault::ReadFault),
+        Ok(0) => match ending(progress, at, window.held()) {
+            Ok(()) => Ok(None),
+            Err(fault) => Err(fault),
+        },
+        Ok(_) => Ok(Some(at)),
+    }
+}
+
+// One turn: an item is taken, or bytes are read behind what is held. The place where it goes on; none at the end.
+fn turn<S: Source, T: DocTaker>(
+    window: &mut Window,
+    progress: &mut Progress,
+    at: u64,
+    source: &mut S,
+    taker: &mut T,
+) -> Result<Option<u64>, DemuxFault>
+    requires fresh { (T.stops taker.old ≡ 0) × (T.starved taker.old ≡ 0) }
+    requires within { at ≤ limit }
+    requires size { window.old.size ≡ 16793600 }
+    requires room { length window.old.bytes ≤ 16793600 }
+    ensures room { OnOk result (length window.new.bytes ≤ 16793600) }
+    ensures turns { (first : Option (List ℕ)) (before : Option (List Taking)) → Stands first (S.left source.old) (stage_of progress.old) at window.old.bytes (T.keeps taker.old) before (T.kept taker.old)
+        → Turns result first (S.left source.new) (stage_of progress.new) window.new.bytes (T.keeps taker.old) before (T.kept taker.new) }
+    ensures same { T.keeps taker.new ≡ T.keeps taker.old }
+    ensures size { window.new.size ≡ window.old.size }
+    ensures on { IfOk result (λ r. IfSome r (λ b. (b ≤ limit) × (at + (at + length window.old.bytes) < b + (b + length window.new.bytes)))) }
+    ensures fresh { OnOk result ((T.stops taker.new ≡ 0) × (T.starved taker.new ≡ 0)) }
+    ensures read_fault { IsErrOf result DemuxFault.ReadFault → Rose (S.faults source.old) (S.faults source.new) }
+    ensures still { OnErr result (Keeps (S.left source.old) (S.left source.new)) }
+    ensures stopped { IsErrOf result DemuxFault.Stopped → Rose (T.stops taker.old) (T.stops taker.new) }
+    ensures starved { (first : Option (List ℕ)) (keep : Taking → Bool) (before kept : Option (List Taking)) → Stands first (S.left source.old) (stage_of progress.old) at window.old.bytes keep before kept
+        → IsErrOf result DemuxFault.NoMemory → Rose (T.starved taker.old) (T.starved taker.new) ⊎ Asked_told first }
+    ensures later { S.faults source.old ≤ S.faults source.new }
+{
+    match progress.item(at, within(window.held(), LIMIT - at), taker) {
+        Err(fault) => Err(fault),
+        Ok(Some(size)) => {
+            window.skip(size);
+            Ok(Some(at + size as u64))
+        }
+        Ok(None) => more(window, progress, at, source),
+    }
+}
+
+/// Takes one archive apart.
+#[derive(Drop)]
+pub struct Demux {
+    window: Window,
+    progress: Progress,
+    ghost empty: { window ≡ record { bytes = []; size = 16793600 } },
+    ghost front: { stage_of progress ≡ start },
+}
+
+impl Demux {
+    /// Reserves the whole window, 16,793,600 bytes. Nothing more is taken for reading, and of the window no more is
+    /// written than documents need.
+    pub fn new(alloc: Global) -> Result<Demux, AllocError> {
+        Ok(Demux {
+            window: Window::new(alloc, MAX_DOCUMENT_BYTES)?,
+            progress: Progress {
+                alloc,
+                place: Place::Front,
+                metas: Vec::new(alloc),
+                seen: Vec::new(alloc),
+            },
+        })
+    }
+
+    /// Reads the input to its end, or to the first fault, and hands out what it has in order of the bytes.
+    pub fn run<S: Source, T: DocTaker>(
+        self,
+        source: &mut S,
+        taker: &mut T,
+    ) -> Result<(), DemuxFault>
+        requires fresh { (T.stops taker.old ≡ 0) × (T.starved taker.old ≡ 0) }
+        ensures told { Tells result (S.left source.old) (S.left source.new) (T.keeps taker.old) (T.kept taker.old) (T.kept taker.new) }
+        ensures ahead { OnErr result (Ahead_told (S.left source.old) (S.left source.new)) }
+        ensures read_fault { IsErrOf result DemuxFault.ReadFault → Rose (S.faults source.old) (S.faults source.new) }
+        ensures stopped { IsErrOf result DemuxFault.Stopped → Rose 0 (T.stops taker.new) }
+        ensures starved { IsErrOf result DemuxFault.NoMemory → Rose 0 (T.starved taker.new) ⊎ Asked_told (S.left source.old) }
+        ensures fresh { OnOk result ((T.stops taker.new ≡ 0) × (T.starved taker.new ≡ 0)) }
+        ensures same { T.keeps taker.new ≡ T.keeps taker.old }
+        ensures later { S.faults source.old ≤ S.faults source.new }
+    {
+        let mut window = self.window;
+        let mut progress = self.progress;
+        let mut at = 0u64;
+        'turns: loop {
+            match turn(&mut window, &mut progress, at, source, taker) {
+                Err(fault) => return Err(fault),
+                Ok(None) => return Ok(()),
+                Ok(Some(place)) => at = place,
+            }
+        }
+    }
+}

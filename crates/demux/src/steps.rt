@@ -1,0 +1,331 @@
+//! The steps of the grammar, one item at a time.
+ghost use Rattle.std.specs.Prelude.{◌≡◌, ◌∷◌, [], true, Some, ◌<◌, length, is_some, None, IsErrOf, IfErr, IfSome, OnOk, slice_get, option_map};
+ghost use Rattle.std.specs.Option.{option_copied};
+ghost use Rattle.archive_format.specs.Shapes.{named, is_oplog};
+ghost use Rattle.archive_format.specs.Archive.{Seen as Entry, goes, closed_entry, magic, document, step_at, sound, header_step, meta_step, head_step, doc_step, end_step, early, lengthy, size_of, number, is_stop, is_magic, same_ns, meta_place, seat_of, bad, opened, opened_entry, behind, header_in, metadata_in, head_in, fault_in, IsNew, doc, end};
+ghost use Rattle.demux.specs.Steps.{stage_of, Quiet, Refused, Notes, Names};
+
+use crate::documents::{checked, head, is_header, metadata};
+use crate::progress::Progress;
+use crate::seen::Seen;
+use crate::taker::Halt;
+use archive_format::{DemuxFault, Place};
+use bson_core::{BsonKind, NsName, Text};
+
+const MAGIC: [u8; 4] = [0x6d, 0xe2, 0x99, 0x81];
+
+const STOP: [u8; 4] = [255, 255, 255, 255];
+
+pub fn is_magic(word: &[u8]) -> bool
+    ensures { result ≡ is_magic word.now }
+{
+    word == MAGIC.as_slice()
+}
+
+pub fn is_stop(word: &[u8]) -> bool
+    ensures { result ≡ is_stop word.now }
+{
+    word == STOP.as_slice()
+}
+
+// The number that four bytes spell.
+#[tactic(auto, unfolding(archive_format::specs::Archive::number))]
+fn number(word: &[u8]) -> u32
+    requires { length word.now ≡ 4 }
+    ensures { result ≡ number word.now }
+{
+    u32::from_le_bytes([word[0], word[1], word[2], word[3]])
+}
+
+#[tactic(auto, unfolding(archive_format::specs::Archive::lengthy))]
+fn lengthy(at: u64, count: u32) -> Option<DemuxFault>
+    ensures value { result ≡ lengthy at count }
+    ensures plain { IfSome result (λ f. Refused f (bad f)) }
+    ensures fed { IfSome result (λ f. f ≡ DemuxFault.NoMemory → ⊥) }
+{
+    if count < 5 || 2147483647 < count {
+        return Some(DemuxFault::BadBson {
+            at,
+            kind: BsonKind::Length,
+        });
+    }
+    if 16793600 < count {
+        return Some(DemuxFault::BadBson {
+            at,
+            kind: BsonKind::TooLong,
+        });
+    }
+    None
+}
+
+/// The fault that the first four bytes show by themselves.
+#[tactic(auto, unfolding(archive_format::specs::Archive::early))]
+pub fn early(place: Place, at: u64, word: &[u8]) -> Option<DemuxFault>
+    requires { length word.now ≡ 4 }
+    ensures value { result ≡ early place at word.now }
+    ensures plain { IfSome result (λ f. Refused f (bad f)) }
+    ensures fed { IfSome result (λ f. f ≡ DemuxFault.NoMemory → ⊥) }
+{
+    match place {
+        Place::Front => {
+            if is_magic(word) {
+                None
+            } else {
+                Some(DemuxFault::BadMagic)
+            }
+        }
+        Place::Header => {
+            if is_stop(word) {
+                Some(DemuxFault::BadPrelude { at })
+            } else {
+                lengthy(at, number(word))
+            }
+        }
+        Place::Blocks => {
+            if is_stop(word) {
+                Some(DemuxFault::BadHeader { at })
+            } else {
+                lengthy(at, number(word))
+            }
+        }
+        Place::Metas | Place::Inside(_) => {
+            if is_stop(word) {
+                None
+            } else {
+                lengthy(at, number(word))
+            }
+        }
+        Place::Ending(_, _) => {
+            if is_stop(word) {
+                None
+            } else {
+                Some(DemuxFault::DocsInEnd { at })
+            }
+        }
+    }
+}
+
+#[tactic(auto, unfolding(archive_format::specs::Archive::size_of))]
+pub fn size_of(word: &[u8]) -> usize
+    requires { length word.now ≡ 4 }
+    ensures { result ≡ size_of word.now }
+{
+    if is_stop(word) || is_magic(word) {
+        return 4;
+    }
+    number(word) as usize
+}
+
+pub fn halted(halt: Halt) -> DemuxFault
+    ensures stopped { halt ≡ Halt.Stopped → result ≡ DemuxFault.Stopped }
+    ensures starved { halt ≡ Halt.NoMemory → result ≡ DemuxFault.NoMemory }
+{
+    match halt {
+        Halt::Stopped => DemuxFault::Stopped,
+        Halt::NoMemory => DemuxFault::NoMemory,
+    }
+}
+
+fn same_ns(a: &NsName, b: &NsName) -> bool
+    ensures { result ≡ same_ns a.now b.now }
+{
+    a.db.as_str() == b.db.as_str() && a.coll.as_str() == b.coll.as_str()
+}
+
+fn is_oplog(ns: &NsName) -> bool
+    ensures { result ≡ is_oplog ns.now }
+{
+    ns.db.as_str() == "" && ns.coll.as_str() == "oplog"
+}
+
+fn meta_place(ns: &NsName, metas: &[NsName]) -> Option<usize>
+    ensures { result ≡ meta_place ns.now metas.now }
+{
+    metas.iter().position(|m| same_ns(m, ns))
+}
+
+fn seat_of(db: &str, coll: &str, seen: &[Seen]) -> Option<usize>
+    ensures seat { result ≡ seat_of (named db.now coll.now) seen.now }
+    ensures within { IfSome result (λ i. i < length seen.now) }
+{
+    seen.iter().position(|e| e.is(db, coll))
+}
+
+fn behind(eof: bool, crc: Option<i64>, i: usize) -> Place
+    ensures { result ≡ behind eof crc i }
+{
+    if !eof {
+        return Place::Inside(i);
+    }
+    match crc {
+        None => Place::Ending(i, None),
+        Some(z) => Place::Ending(i, Some(z.cast_unsigned())),
+    }
+}
+
+impl Progress {
+    #[tactic(auto, unfolding(archive_format::specs::Archive::step_at))]
+    pub fn magic(&mut self, at: u64) -> Result<(), DemuxFault>
+        ensures steps { Quiet result (stage_of self.new) (step_at self.old.place (stage_of self.old) at magic) }
+        ensures fed { IfErr result (λ f. f ≡ DemuxFault.NoMemory → ⊥) }
+    {
+        match self.place {
+            Place::Front => {
+                self.place = Place::Header;
+                Ok(())
+            }
+            Place::Ending(_, _) => Err(DemuxFault::DocsInEnd { at }),
+            _ => Err(DemuxFault::BadBson {
+                at,
+                kind: BsonKind::Length,
+            }),
+        }
+    }
+
+    #[tactic(auto, unfolding(archive_format::specs::Archive::header_step))]
+    pub fn header(&mut self, at: u64, bytes: &[u8]) -> Result<(), DemuxFault>
+        ensures { Quiet result (stage_of self.new) (sound at (header_step (stage_of self.old) at (header_in bytes.now)) (fault_in bytes.now)) }
+    {
+        match is_header(self.alloc, at, bytes) {
+            Err(fault) => Err(fault),
+            Ok(false) => Err(DemuxFault::BadPrelude { at }),
+            Ok(true) => {
+                self.place = Place::Metas;
+                Ok(())
+            }
+        }
+    }
+
+    /// The namespace and the text that are to be handed out.
+    #[tactic(auto, unfolding(archive_format::specs::Archive::meta_step))]
+    pub fn note_metadata(
+        &mut self,
+        at: u64,
+        bytes: &[u8],
+    ) -> Result<Option<(NsName, Text)>, DemuxFault>
+        ensures { Notes result (stage_of self.new) (sound at (meta_step (stage_of self.old) at (metadata_in bytes.now)) (fault_in bytes.now)) }
+    {
+        match metadata(self.alloc, at, bytes) {
+            Err(fault) => Err(fault),
+            Ok(None) => Err(DemuxFault::BadPrelude { at }),
+            Ok(Some((ns, text))) => {
+                if is_oplog(&ns) {
+                    return Ok(None);
+                }
+                if meta_place(&ns, &self.metas).is_some() {
+                    return Err(DemuxFault::BadPrelude { at });
+                }
+                self.metas.push(ns.copy(self.alloc)?)?;
+                Ok(Some((ns, text)))
+            }
+        }
+    }
+
+    #[tactic(auto, unfolding(archive_format::specs::Archive::head_step))]
+    pub fn head(&mut self, at: u64, bytes: &[u8]) -> Result<(), DemuxFault>
+        ensures steps { Quiet result (stage_of self.new) (sound at (head_step (stage_of self.old) at (head_in bytes.now)) (fault_in bytes.now)) }
+        ensures starved { IsErrOf result DemuxFault.NoMemory → IsNew (stage_of self.old) (head_in bytes.now) }
+    {
+        match head(at, bytes) {
+            Err(fault) => Err(fault),
+            Ok(None) => Err(DemuxFault::BadHeader { at }),
+            Ok(Some(head)) => match seat_of(head.db, head.coll, &self.seen) {
+                None => self.new_seat(head.db, head.coll, head.eof, head.crc),
+                Some(i) => self.old_seat(at, i, behind(head.eof, head.crc, i)),
+            },
+        }
+    }
+
+    fn new_seat(
+        &mut self,
+        db: &str,
+        coll: &str,
+        eof: bool,
+        crc: Option<i64>,
+    ) -> Result<(), DemuxFault>
+        ensures { Quiet result (stage_of self.new) (opened (stage_of self.old) 0 (record { ns = named db.now coll.now; eof = eof; crc = crc }) None) }
+    {
+        let i = self.seen.len();
+        let ns = NsName {
+            db: Text::of(self.alloc, db)?,
+            coll: Text::of(self.alloc, coll)?,
+        };
+        self.seen.push(Seen::new(ns))?;
+        self.place = behind(eof, crc, i);
+        Ok(())
+    }
+
+    fn old_seat(&mut self, at: u64, i: usize, next: Place) -> Result<(), DemuxFault>
+        requires { i < length self.old.seen.items }
+        ensures steps { Quiet result (stage_of self.new) (opened_entry (stage_of self.old) at next (slice_get self.old.seen.items i)) }
+        ensures fed { IfErr result (λ f. f ≡ DemuxFault.NoMemory → ⊥) }
+    {
+        if self.seen[i].has_ended() {
+            return Err(DemuxFault::AfterEnd {
+                ns: self.seen.swap_remove(i).into_ns(),
+                at,
+            });
+        }
+        self.place = next;
+        Ok(())
+    }
+
+    #[tactic(auto, unfolding(archive_format::specs::Archive::doc_step))]
+    pub fn add_document(&mut self, at: u64, i: usize, bytes: &[u8]) -> Result<(), DemuxFault>
+        ensures names { Names result (stage_of self.new) (sound at (doc_step (stage_of self.old) at i bytes.now (slice_get self.old.seen.items i)) (fault_in bytes.now)) i (λ n. doc n bytes.now) }
+        ensures document { OnOk result (fault_in bytes.now ≡ None) }
+        ensures fed { IfErr result (λ f. f ≡ DemuxFault.NoMemory → ⊥) }
+    {
+        match checked(at, bytes) {
+            Err(fault) => Err(fault),
+            Ok(()) => {
+                if self.seen.len() <= i {
+                    return Err(DemuxFault::BadHeader { at });
+                }
+                self.seen[i].add(bytes);
+                Ok(())
+            }
+        }
+    }
+
+    fn close(&mut self, i: usize)
+        requires { i < length self.old.seen.items }
+        ensures { (e : Entry) → slice_get self.old.seen.items i ≡ Some e → (closed_entry (stage_of self.old) i e ≡ goes (stage_of self.new) (end e.ns ∷ [])) × (slice_get self.new.seen.items i ≡ Some (record e { ended = true })) }
+    {
+        self.seen[i].end();
+        self.place = Place::Blocks;
+    }
+
+    #[tactic(auto, unfolding(archive_format::specs::Archive::end_step))]
+    pub fn mark_ended(&mut self, at: u64, i: usize, said: Option<u64>) -> Result<(), DemuxFault>
+        ensures names { Names result (stage_of self.new) (end_step (stage_of self.old) at i said (slice_get self.old.seen.items i)) i (λ n. end n) }
+        ensures fed { IfErr result (λ f. f ≡ DemuxFault.NoMemory → ⊥) }
+    {
+        if self.seen.len() <= i {
+            return Err(DemuxFault::BadHeader { at });
+        }
+        let found = self.seen[i].sum();
+        match said {
+            Some(said) if said != found => Err(DemuxFault::Crc {
+                ns: self.seen.swap_remove(i).into_ns(),
+                said,
+                found,
+            }),
+            Some(_) => {
+                self.close(i);
+                Ok(())
+            }
+            None => {
+                self.close(i);
+                Ok(())
+            }
+        }
+    }
+
+    /// The name of the namespace with this number.
+    pub fn name_of(&self, i: usize) -> Option<&NsName>
+        ensures { option_copied result ≡ option_map (λ e. e.ns) (slice_get self.now.seen.items i) }
+    {
+        self.seen.get(i).map(|e| e.ns())
+    }
+}
