@@ -1,0 +1,8 @@
+//! Values of BSON as JSON: canonical Extended JSON, with doubles and decimals by their bits.
+#![tactic(auto)]
+
+mod writing;
+
+pub use bson_value::Value;
+pub use json_text::Tree;
+pub use writing::tree_of;
