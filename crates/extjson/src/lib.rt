@@ -1,6 +1,8 @@
 //! Values of BSON as JSON: canonical Extended JSON, with doubles and decimals by their bits.
 #![tactic(auto)]
 
+#[cfg(test)]
+mod tests;
 mod writing;
 
 pub use bson_value::Value;
