@@ -1,9 +1,8 @@
 -- Skipping bytes, and words, one byte after the other.
-use Rattle.std.proofs.Common.{◌≡◌, ◌≢◌, ℕ, zero, suc, ◌+◌, ◌<◌, Bool, true, false, List, [], ◌∷◌, length, drop, get_or, Result, Ok, Err, refl, sym, ap, arith, ◌∙◌, ◌≤◌, eqb}
+use Rattle.std.proofs.Common.{◌≡◌, ℕ, suc, ◌+◌, ◌<◌, true, false, List, [], ◌∷◌, length, drop, get_or, Ok, Err, refl, arith, ◌≤◌, eqb}
 use Rattle.std.proofs.Math.Seq.{drop-cons}
 use Rattle.std.proofs.lemmas.List.{drop_all}
 use Rattle.std.proofs.lemmas.Bool.{eq-eqb, ne_eqb}
-use Rattle.std.specs.Str.{is_utf8}
 use Rattle.json_text.specs.Reading.{is_space, after_space, is_digit, after_digits, word_at}
 
 pub space_skips : (rest after : List ℕ) (b : ℕ) → rest ≡ b ∷ after → is_space b ≡ true → after_space after ≡ after_space rest

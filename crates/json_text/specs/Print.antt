@@ -1,5 +1,5 @@
 -- The text of a value: no spaces, and in strings as few escapes as may be.
-use Rattle.std.specs.Prelude.{ℕ, ◌+◌, ◌/◌, ◌%◌, Bool, List, [], ◌∷◌, ◌++◌, map, nat_lt, ◌==◌, if◌then◌else◌}
+use Rattle.std.specs.Prelude.{ℕ, ◌+◌, ◌/◌, ◌%◌, List, [], ◌∷◌, ◌++◌, map, nat_lt, ◌==◌, if◌then◌else◌}
 use Rattle.std.specs.List.{flat_map}
 use Rattle.json_text.specs.declared.tree.Tree.{Tree, fold-Tree}
 use Rattle.json_text.specs.declared.tree.Tree.TheOpen.{Tree-F}

@@ -1,5 +1,5 @@
-use Rattle.std.proofs.Common.{ap, ◌∙◌, ◌≡◌, ◌∷◌, [], ◌++◌}
-use Rattle.json_text.specs.Print.{text_of, entries_text}
+use Rattle.std.proofs.Common.{ap, ◌∙◌}
+use Rattle.json_text.specs.Print.{text_of}
 use Rattle.json_text.proofs.Printed.{object_text}
 use Rattle.json_text.proofs.printing.+print.Goals as goal
 

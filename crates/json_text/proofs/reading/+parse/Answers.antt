@@ -1,7 +1,7 @@
-use Rattle.std.proofs.Common.{sym, ◌∙◌, ◌≡◌, ◌≢◌, ◌-◌, arith, length, [], List, ℕ, subst, ap}
+use Rattle.std.proofs.Common.{sym, arith}
 use Rattle.std.proofs.lemmas.Result.{err_from_is_err_and}
 use Rattle.containers.proofs.Entries.{distinct_push}
-use Rattle.json_text.specs.Reading.{item_at, member_at, value_at, list_at}
+use Rattle.json_text.specs.Reading.{item_at, member_at, value_at}
 use Rattle.json_text.proofs.Loop.{goes_on, stops, ends, starts, shut, array_none, array_some, object_none, object_some}
 use Rattle.json_text.proofs.reading.+parse.Goals as goal
 

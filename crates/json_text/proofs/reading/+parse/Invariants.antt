@@ -1,4 +1,4 @@
-use Rattle.std.proofs.Common.{◌+◌, ◌*◌, ◌≤◌, length, []}
+use Rattle.std.proofs.Common.{◌+◌, ◌*◌, ◌≤◌, length}
 use Rattle.containers.specs.Entries.{AreDistinct, names_of}
 use Rattle.json_text.specs.Reading.{list_at, item_at, member_at, value_at}
 use Rattle.json_text.proofs.Loop.{Left}

@@ -1,6 +1,6 @@
-use Rattle.std.proofs.Common.{sym, ◌∙◌, arith, suc, length, []}
+use Rattle.std.proofs.Common.{sym, ◌∙◌, arith}
 use Rattle.std.proofs.lemmas.Result.{err_from_is_err_and}
-use Rattle.json_text.specs.Reading.{steps_at, piece_at}
+use Rattle.json_text.specs.Reading.{piece_at}
 use Rattle.json_text.proofs.Loop.{goes_on, stops, ends}
 use Rattle.json_text.proofs.tokens.pieces.Goals as goal
 

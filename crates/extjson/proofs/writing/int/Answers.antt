@@ -1,0 +1,14 @@
+use Rattle.std.proofs.Common.{◌≡◌, ℤ, subst, ◌∙◌}
+use Rattle.std.specs.Prelude.{IfOk}
+use Rattle.std.specs.Int.{w32}
+use Rattle.std.proofs.lemmas.Int.{to_z-of_z}
+use Rattle.json_text.specs.declared.tree.Tree.{Tree}
+use Rattle.extjson.specs.Trees.{int_tree}
+use Rattle.extjson.proofs.Wraps.{wrap_is, pair_is, str_is}
+use Rattle.extjson.proofs.writing.int.Goals as goal
+
+pub returns : goal.returns
+unfolding int_tree
+returns c =
+    subst (λ (z : ℤ). IfOk c.wrap.result (λ t. t ≡ int_tree z)) (to_z-of_z w32 c.args.n c.ranges.n)
+    (wrap_is c.wrap.result _ _ _ (c.string.ensures ∙ str_is _ _ c.in_ok-digits.ensures.ok) c.wrap.ensures)
