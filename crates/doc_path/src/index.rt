@@ -51,7 +51,8 @@ pub fn index_of(name: &str) -> Option<usize>
     }
 }
 
-/// The index whose name this is, where it is below the limit.
+/// The index whose name this is, in decimal digits without a zero in front. `None` exactly where the
+/// name is no index below 2,097,152.
 pub fn small_index(name: &str) -> Option<usize>
     ensures some { IfSome result (λ n. (index_of_name name.now ≡ Some n) × (n < limit)) }
     ensures none { IfNone result (small (index_of_name name.now) ≡ false) }

@@ -60,21 +60,23 @@ fn place(alloc: Global, text: &str) -> Result<Place, Fail> {
     Ok(place)
 }
 
+// A document of one field.
+fn one(alloc: Global, text: &str, value: Value) -> Result<Doc, Fail> {
+    let mut doc = Doc::new(alloc);
+    doc.set(name(alloc, text)?, value)?;
+    Ok(doc)
+}
+
 // {o: {b: 1}, a: [7, {c: 2}], s: a code with the scope {b: 3}}
 fn worked(alloc: Global) -> Result<Doc, Fail> {
-    let mut inner = Doc::new(alloc);
-    inner.set(name(alloc, "b")?, Value::Int(1))?;
-    let mut element = Doc::new(alloc);
-    element.set(name(alloc, "c")?, Value::Int(2))?;
     let mut items = List::new(alloc);
     items.push(Value::Int(7))?;
-    items.push(Value::Object(element))?;
-    let mut scope = Doc::new(alloc);
-    scope.set(name(alloc, "b")?, Value::Int(3))?;
-    let code = Text::new(alloc);
-    let mut doc = Doc::new(alloc);
+    items.push(Value::Object(one(alloc, "c", Value::Int(2))?))?;
+    let mut doc = one(alloc, "a", Value::Array(items))?;
+    let inner = one(alloc, "b", Value::Int(1))?;
     doc.set(name(alloc, "o")?, Value::Object(inner))?;
-    doc.set(name(alloc, "a")?, Value::Array(items))?;
+    let scope = one(alloc, "b", Value::Int(3))?;
+    let code = Text::new(alloc);
     doc.set(name(alloc, "s")?, Value::ScopedCode { code, scope })?;
     Ok(doc)
 }

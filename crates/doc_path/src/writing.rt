@@ -1,4 +1,4 @@
-//! Changes at places, in both forms.
+//! Changes at the end of a way: by a document's own places, and as replay does in both its forms.
 ghost use Rattle.std.specs.Prelude.{◌≡◌, ◌∷◌, [], ◌<◌, ◌≤◌, IsTrue, true, false, Some, None, OnOk, OnErr, IfOk, IfSome, IfNone};
 ghost use Rattle.bson_value.specs.declared.value.Value.{Object as object_of, Array as array_of};
 ghost use Rattle.bson_value.specs.Place.{an_array};
@@ -323,8 +323,9 @@ fn rule_of(form: Form) -> Rule
     }
 }
 
-/// A change at the end of the way, by the rules of replay in one of its forms. Where the way isn't
-/// there, or the form doesn't take a part, the document stays.
+/// A change at the end of the way, as replay does it in one of its forms. Where the way isn't there,
+/// or the form doesn't take a part, the document stays. What replay leaves at once, as a place within
+/// `_id`, isn't told apart here.
 pub fn change_document(
     alloc: Global,
     doc: &mut Doc,
