@@ -22,9 +22,9 @@ pub begins : (first : Option (List ℕ)) (s : Stage) (held : List ℕ) (keep : T
 begins first s held keep kept e h = subst (λ z. Stands first first z 0 held keep kept kept) (sym e) (subst (λ z. Stands first first start 0 z keep kept kept) (sym h) (begins_at first keep kept))
 
 -- a turn where the test that is kept stands for the test now
-pub turned : (r : Result (Option ℕ) DemuxFault) (first before_left now : Option (List ℕ)) (s t : Stage) (at : ℕ) (held after : List ℕ) (keep keep_now : Taking → Bool) (before old new : Option (List Taking))
-    → keep_now ≡ keep → (Stands first before_left s at held keep_now before old → Turns r first now t after keep_now before new) → Stands first before_left s at held keep before old → Turns r first now t after keep before new
-turned r first before_left now s t at held after keep keep_now before old new e f h = subst (λ k. Turns r first now t after k before new) e (f (subst (λ k. Stands first before_left s at held k before old) (sym e) h))
+pub turned : (r : Result (Option ℕ) DemuxFault) (first before_left now : Option (List ℕ)) (s t : Stage) (at : ℕ) (held after : List ℕ) (keep keep_now why : Taking → Bool) (before old new : Option (List Taking))
+    → keep_now ≡ keep → (Stands first before_left s at held keep_now before old → Turns r first now t after keep_now before new why) → Stands first before_left s at held keep before old → Turns r first now t after keep before new why
+turned r first before_left now s t at held after keep keep_now why before old new e f h = subst (λ k. Turns r first now t after k before new why) e (f (subst (λ k. Stands first before_left s at held k before old) (sym e) h))
 
 pub keeps_same : (x : Option (List ℕ)) → Keeps x x
 keeps_same None = tt

@@ -19,20 +19,20 @@ took_join keep (Some xs) None c ts us p q = absurd p
 took_join keep (Some xs) (Some ys) None ts us p q = absurd q
 took_join keep (Some xs) (Some ys) (Some zs) ts us p q = q ∙ ap (λ w. w ++ filter keep us) p ∙ append_assoc xs (filter keep ts) (filter keep us) ∙ ap (λ w. xs ++ w) (sym (filter-append keep ts us))
 
-pub stuck_early : (f : DemuxFault) (x : Next) (keep : Taking → Bool) (now : Option (List Taking)) → Refused f (bad f) → x ≡ wrong f → Stuck f x keep now now
-stuck_early faults.NoMemory x keep now r e = took_none keep now
-stuck_early faults.ReadFault x keep now r e = absurd r
-stuck_early faults.Stopped x keep now r e = absurd r
-stuck_early faults.BadMagic x keep now r e = (e, took_none keep now)
-stuck_early (faults.Truncated a) x keep now r e = (e, took_none keep now)
-stuck_early (faults.BadBson a k) x keep now r e = (e, took_none keep now)
-stuck_early (faults.BadPrelude a) x keep now r e = (e, took_none keep now)
-stuck_early (faults.BadHeader a) x keep now r e = (e, took_none keep now)
-stuck_early (faults.AfterEnd n a) x keep now r e = (e, took_none keep now)
-stuck_early (faults.DocsInEnd a) x keep now r e = (e, took_none keep now)
-stuck_early (faults.Crc n s f) x keep now r e = (e, took_none keep now)
-stuck_early (faults.NotEnded n) x keep now r e = (e, took_none keep now)
-stuck_early faults.TooLong x keep now r e = (e, took_none keep now)
+pub stuck_early : (f : DemuxFault) (x : Next) (keep : Taking → Bool) (now : Option (List Taking)) (why : Taking → Bool) → Refused f (bad f) → x ≡ wrong f → Stuck f x keep now now why
+stuck_early faults.NoMemory x keep now why r e = took_none keep now
+stuck_early faults.ReadFault x keep now why r e = absurd r
+stuck_early faults.Stopped x keep now why r e = absurd r
+stuck_early faults.BadMagic x keep now why r e = (e, took_none keep now)
+stuck_early (faults.Truncated a) x keep now why r e = (e, took_none keep now)
+stuck_early (faults.BadBson a k) x keep now why r e = (e, took_none keep now)
+stuck_early (faults.BadPrelude a) x keep now why r e = (e, took_none keep now)
+stuck_early (faults.BadHeader a) x keep now why r e = (e, took_none keep now)
+stuck_early (faults.AfterEnd n a) x keep now why r e = (e, took_none keep now)
+stuck_early (faults.DocsInEnd a) x keep now why r e = (e, took_none keep now)
+stuck_early (faults.Crc n s f) x keep now why r e = (e, took_none keep now)
+stuck_early (faults.NotEnded n) x keep now why r e = (e, took_none keep now)
+stuck_early faults.TooLong x keep now why r e = (e, took_none keep now)
 
 pub not_stopped : (f : DemuxFault) → Refused f (bad f) → f ≡ faults.Stopped → ⊥
 not_stopped f r e = subst (λ z. Refused z (bad z)) e r

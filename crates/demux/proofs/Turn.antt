@@ -1,5 +1,5 @@
 -- What one turn does to what is known of the whole input.
-use Rattle.std.proofs.Common.{◌≡◌, inl, inr, ℕ, ◌+◌, ◌-◌, ◌<◌, ◌≤◌, Bool, false, ltb, List, [], ◌∷◌, ◌++◌, length, take, drop, refl, ap, subst, ◌∙◌, append_assoc, arith}
+use Rattle.std.proofs.Common.{◌≡◌, inl, inr, ℕ, ◌+◌, ◌-◌, ◌<◌, ◌≤◌, Bool, true, false, ltb, List, [], ◌∷◌, ◌++◌, length, take, drop, refl, ap, subst, ◌∙◌, append_assoc, arith}
 use Rattle.std.specs.Prelude.{None, Some, Option}
 use Rattle.std.proofs.lemmas.List.{append-nil, length-take}
 use Rattle.std.proofs.lemmas.Bool.{le-ltb, cases_lt, cases_Bool}
@@ -14,7 +14,7 @@ use Rattle.archive_format.proofs.Fronts.{early_fits, item_found, met_length}
 use Rattle.demux.proofs.Takings.{took_join}
 use Rattle.demux.proofs.Sight.{fault_found, too_long, ends_short, first_of_all, goes_on, filled}
 
-module _ (keep : Taking → Bool) (before old new : Option (List Taking)) (s : Stage) (at : ℕ) (held : List ℕ) where
+module _ (keep : Taking → Bool) (before old new : Option (List Taking)) (why : Taking → Bool) (s : Stage) (at : ℕ) (held : List ℕ) where
   pub item_taken : (first now : Option (List ℕ)) (m : Stage) (one : List Taking) (n : ℕ) → Stands first now s at held keep before old → next s at (take (limit - at) held) ≡ onward m one n → Took keep old new one
       → Stands first now m (at + n) (drop n held) keep before new
   item_taken None now m one n h e t = record { given = h.given ++ one; watch = tt; took = took_join keep before old new h.given one h.took t }
@@ -34,16 +34,16 @@ module _ (keep : Taking → Bool) (before old new : Option (List Taking)) (s : S
   part : (all left : List ℕ) (given : List Taking) → Holds all s at held left given → Took keep before old given → Took keep old new [] → Part all keep before new
   part all left given h p q = let k = first_of_all all s at held left given h in record { given = given; more = k.0; fault = k.1; ends = k.2; took = took_same given p q }
 
-  stop : (all left : List ℕ) (given : List Taking) (t : Stage) (one : Taking) (n : ℕ) → Holds all s at held left given → next s at (take (limit - at) held) ≡ onward t (one ∷ []) n → Took keep before old given → Took keep old new [] → Stop all keep before new
-  stop all left given t one n h e p q =
+  stop : (all left : List ℕ) (given : List Taking) (t : Stage) (one : Taking) (n : ℕ) → Holds all s at held left given → next s at (take (limit - at) held) ≡ onward t (one ∷ []) n → Took keep before old given → Took keep old new [] → why one ≡ true → Stop all keep before new why
+  stop all left given t one n h e p q w =
       let on = (goes_on all s at held left given h t (one ∷ []) n e).2 in
       let k = first_of_all all t (at + n) (drop n held) left (given ++ (one ∷ [])) on in
-      record { given = given; refused = one; more = k.0; fault = k.1; ends = subst (λ z. EndsOf all z k.1) (append_assoc given (one ∷ []) k.0) k.2; took = took_same given p q }
+      record { given = given; refused = one; more = k.0; fault = k.1; ends = subst (λ z. EndsOf all z k.1) (append_assoc given (one ∷ []) k.0) k.2; took = took_same given p q; told = w }
 
-  known_stuck : (all left : List ℕ) (f : DemuxFault) (given : List Taking) → Holds all s at held left given → Took keep before old given → Stuck f (next s at (take (limit - at) held)) keep old new → Tells_fault f all keep before new
+  known_stuck : (all left : List ℕ) (f : DemuxFault) (given : List Taking) → Holds all s at held left given → Took keep before old given → Stuck f (next s at (take (limit - at) held)) keep old new why → Tells_fault f all keep before new why
   known_stuck all left faults.NoMemory given h p u = part all left given h p u
   known_stuck all left faults.ReadFault given h p u = absurd u
-  known_stuck all left faults.Stopped given h p u = stop all left given u.0 u.1 u.2 h u.3 p u.4
+  known_stuck all left faults.Stopped given h p u = stop all left given u.0 u.1 u.2 h u.3 p u.4 u.5
   known_stuck all left faults.BadMagic given h p u = whole all left _ given h u.0 p u.1
   known_stuck all left (faults.Truncated a) given h p u = whole all left _ given h u.0 p u.1
   known_stuck all left (faults.BadBson a k) given h p u = whole all left _ given h u.0 p u.1
@@ -55,12 +55,12 @@ module _ (keep : Taking → Bool) (before old new : Option (List Taking)) (s : S
   known_stuck all left (faults.NotEnded n) given h p u = whole all left _ given h u.0 p u.1
   known_stuck all left faults.TooLong given h p u = whole all left _ given h u.0 p u.1
 
-  pub item_stuck : (first now : Option (List ℕ)) (f : DemuxFault) → Stands first now s at held keep before old → Stuck f (next s at (take (limit - at) held)) keep old new → Fault_told f first keep before new
+  pub item_stuck : (first now : Option (List ℕ)) (f : DemuxFault) → Stands first now s at held keep before old → Stuck f (next s at (take (limit - at) held)) keep old new why → Fault_told f first keep before new why
   item_stuck None now f h u = tt
   item_stuck (Some all) None f h u = absurd h.watch
   item_stuck (Some all) (Some left) f h u = known_stuck all left f h.given h.watch h.took u
 
-  pub far_told : (first now : Option (List ℕ)) → Stands first now s at held keep before old → next s at (take (limit - at) held) ≡ short → limit < at + length held → Took keep old new [] → Fault_told faults.TooLong first keep before new
+  pub far_told : (first now : Option (List ℕ)) → Stands first now s at held keep before old → next s at (take (limit - at) held) ≡ short → limit < at + length held → Took keep old new [] → Fault_told faults.TooLong first keep before new why
   far_told None now h e far t = tt
   far_told (Some all) None h e far t = absurd h.watch
   far_told (Some all) (Some left) h e far t = record { given = h.given; ends = too_long all s at held left h.given h.watch e far; took = took_same h.given h.took t }
@@ -71,7 +71,7 @@ module _ (keep : Taking → Bool) (before old new : Option (List Taking)) (s : S
   more_held (Some all) (Some left) None bs h c t = absurd c
   more_held (Some all) (Some left) (Some after) bs h c t = record { given = h.given; watch = filled all s at held bs left after h.given h.watch c; took = took_same h.given h.took t }
 
-  pub read_failed : (first now later : Option (List ℕ)) → Stands first now s at held keep before old → Took keep old new [] → Fault_told faults.ReadFault first keep before new
+  pub read_failed : (first now later : Option (List ℕ)) → Stands first now s at held keep before old → Took keep old new [] → Fault_told faults.ReadFault first keep before new why
   read_failed None now later h t = tt
   read_failed (Some all) None later h t = absurd h.watch
   read_failed (Some all) (Some left) later h t = part all left h.given h.watch h.took t
@@ -79,7 +79,7 @@ module _ (keep : Taking → Bool) (before old new : Option (List Taking)) (s : S
   done_known : (all left : List ℕ) (e : Option DemuxFault) (given : List Taking) → Holds all s at held left given → next s at held ≡ short → at + length held ≤ limit → left ≡ [] → ending false s at held ≡ e → Took keep before old given → Took keep old new [] → Whole all e keep before new
   done_known all left e given h x near none is p q = record { given = given; ends = subst (λ z. EndsOf all given z) is (ends_short all s at held left given h x near none); took = took_same given p q }
 
-  refused_told : (all : List ℕ) (f : DemuxFault) → Refused f (bad f) → Part all keep before new → Whole all (Some f) keep before new → Tells_fault f all keep before new
+  refused_told : (all : List ℕ) (f : DemuxFault) → Refused f (bad f) → Part all keep before new → Whole all (Some f) keep before new → Tells_fault f all keep before new why
   refused_told all faults.NoMemory r p w = p
   refused_told all faults.ReadFault r p w = p
   refused_told all faults.Stopped r p w = absurd r
@@ -95,7 +95,7 @@ module _ (keep : Taking → Bool) (before old new : Option (List Taking)) (s : S
   refused_told all faults.TooLong r p w = w
 
   -- the end of the input, behind less than an item
-  pub end_refused : (first now later : Option (List ℕ)) (f : DemuxFault) → Stands first now s at held keep before old → next s at held ≡ short → at + length held ≤ limit → Consumes now later [] → IsAtEnd later → ending false s at held ≡ Some f → Refused f (bad f) → Took keep old new [] → Fault_told f first keep before new
+  pub end_refused : (first now later : Option (List ℕ)) (f : DemuxFault) → Stands first now s at held keep before old → next s at held ≡ short → at + length held ≤ limit → Consumes now later [] → IsAtEnd later → ending false s at held ≡ Some f → Refused f (bad f) → Took keep old new [] → Fault_told f first keep before new why
   end_refused None now later f h x near c z is r t = tt
   end_refused (Some all) None later f h x near c z is r t = absurd h.watch
   end_refused (Some all) (Some left) None f h x near c z is r t = absurd c

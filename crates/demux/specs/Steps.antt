@@ -1,5 +1,5 @@
 -- What one turn of the demultiplexer does, in the words of the grammar.
-use Rattle.std.specs.Prelude.{⊤, ℕ, ◌≡◌, List, [], ◌∷◌, ◌++◌, Bool, Option, Some, None, Result, Ok, Err, slice_get}
+use Rattle.std.specs.Prelude.{⊤, ℕ, ◌≡◌, List, [], ◌∷◌, ◌++◌, Bool, true, Option, Some, None, Result, Ok, Err, slice_get}
 use Rattle.bson_value.specs.declared.namespace.NsName.{NsName}
 use Rattle.bson_check.specs.declared.fault.BsonFault.{BsonFault}
 use Rattle.archive_format.specs.Archive.{Item, text_of, IsItem, Taking, meta, Seen, Stage, Verdict, goes, bad, Asks, Next, short, onward, wrong}
@@ -18,17 +18,17 @@ Unread (faults.BadBson a k) at None = ⊥
 Unread (faults.BadBson a k) at (Some f) = (a ≡ at) × (k ≡ f.kind)
 Unread f at x = ⊥
 
--- a fault of the grammar, of the taker, or want of memory. Nothing was taken then
-abbrev pub Halted : DemuxFault → Verdict → (Taking → Bool) → Option (List Taking) → Option (List Taking) → Type 0
-Halted faults.NoMemory v keep old new = Took keep old new []
-Halted faults.ReadFault v keep old new = ⊥
-Halted faults.Stopped v keep old new = (t : Stage) × (one : Taking) × (v ≡ goes t (one ∷ [])) × Took keep old new []
-Halted f v keep old new = (v ≡ bad f) × Took keep old new []
+-- a fault of the grammar, of the taker, who tells of the taking at which it stopped, or want of memory. Nothing was taken then
+abbrev pub Halted : DemuxFault → Verdict → (Taking → Bool) → Option (List Taking) → Option (List Taking) → (Taking → Bool) → Type 0
+Halted faults.NoMemory v keep old new why = Took keep old new []
+Halted faults.ReadFault v keep old new why = ⊥
+Halted faults.Stopped v keep old new why = (t : Stage) × (one : Taking) × (v ≡ goes t (one ∷ [])) × Took keep old new [] × (why one ≡ true)
+Halted f v keep old new why = (v ≡ bad f) × Took keep old new []
 
 -- the verdict on the item, and what was handed out
-abbrev pub Stepped : {U : Type 0} → Result U DemuxFault → Stage → Verdict → (Taking → Bool) → Option (List Taking) → Option (List Taking) → Type 0
-Stepped (Ok u) t v keep old new = (ts : List Taking) × (v ≡ goes t ts) × Took keep old new ts
-Stepped (Err f) t v keep old new = Halted f v keep old new
+abbrev pub Stepped : {U : Type 0} → Result U DemuxFault → Stage → Verdict → (Taking → Bool) → Option (List Taking) → Option (List Taking) → (Taking → Bool) → Type 0
+Stepped (Ok u) t v keep old new why = (ts : List Taking) × (v ≡ goes t ts) × Took keep old new ts
+Stepped (Err f) t v keep old new why = Halted f v keep old new why
 
 -- the same of an item that hands out nothing
 abbrev pub Refused : DemuxFault → Verdict → Type 0
@@ -53,16 +53,16 @@ Names (Ok u) t v i one = (e : Seen) × (slice_get t.seen i ≡ Some e) × (v ≡
 Names (Err f) t v i one = Refused f v
 
 -- what reading shows at a place, and what was handed out
-abbrev pub Stuck : DemuxFault → Next → (Taking → Bool) → Option (List Taking) → Option (List Taking) → Type 0
-Stuck faults.NoMemory x keep old new = Took keep old new []
-Stuck faults.ReadFault x keep old new = ⊥
-Stuck faults.Stopped x keep old new = (t : Stage) × (one : Taking) × (n : ℕ) × (x ≡ onward t (one ∷ []) n) × Took keep old new []
-Stuck f x keep old new = (x ≡ wrong f) × Took keep old new []
+abbrev pub Stuck : DemuxFault → Next → (Taking → Bool) → Option (List Taking) → Option (List Taking) → (Taking → Bool) → Type 0
+Stuck faults.NoMemory x keep old new why = Took keep old new []
+Stuck faults.ReadFault x keep old new why = ⊥
+Stuck faults.Stopped x keep old new why = (t : Stage) × (one : Taking) × (n : ℕ) × (x ≡ onward t (one ∷ []) n) × Took keep old new [] × (why one ≡ true)
+Stuck f x keep old new why = (x ≡ wrong f) × Took keep old new []
 
-abbrev pub Turned : Result (Option ℕ) DemuxFault → Stage → Next → (Taking → Bool) → Option (List Taking) → Option (List Taking) → Stage → Type 0
-Turned (Ok None) t x keep old new s = (x ≡ short) × (t ≡ s) × Took keep old new []
-Turned (Ok (Some n)) t x keep old new s = (ts : List Taking) × (x ≡ onward t ts n) × Took keep old new ts
-Turned (Err f) t x keep old new s = Stuck f x keep old new
+abbrev pub Turned : Result (Option ℕ) DemuxFault → Stage → Next → (Taking → Bool) → Option (List Taking) → Option (List Taking) → Stage → (Taking → Bool) → Type 0
+Turned (Ok None) t x keep old new s why = (x ≡ short) × (t ≡ s) × Took keep old new []
+Turned (Ok (Some n)) t x keep old new s why = (ts : List Taking) × (x ≡ onward t ts n) × Took keep old new ts
+Turned (Err f) t x keep old new s why = Stuck f x keep old new why
 
 -- no fault, or this one
 abbrev pub Closes : {U : Type 0} → Result U DemuxFault → Option DemuxFault → Type 0

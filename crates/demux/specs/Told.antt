@@ -1,5 +1,5 @@
 -- What a run tells of the whole input, and what holds on the way.
-use Rattle.std.specs.Prelude.{length, ◌+◌, ◌≤◌, ⊤, ℕ, ◌≡◌, List, [], ◌∷◌, ◌++◌, Bool, Option, Some, None, Result, Ok, Err}
+use Rattle.std.specs.Prelude.{length, ◌+◌, ◌≤◌, ⊤, ℕ, ◌≡◌, List, [], ◌∷◌, ◌++◌, Bool, true, Option, Some, None, Result, Ok, Err}
 use Rattle.archive_format.specs.Archive.{Taking, Stage, start, Clean, limit, EndsOf}
 use Rattle.demux.specs.Takes.{Took}
 use Rattle.demux.specs.Steps.{AsksFirst}
@@ -36,39 +36,40 @@ pub record Part (all : List ℕ) (keep : Taking → Bool) (before kept : Option 
   pub ends : EndsOf all (given ++ more) fault
   pub took : Took keep before kept given
 
--- the same, and it refused the next
-pub record Stop (all : List ℕ) (keep : Taking → Bool) (before kept : Option (List Taking)) : Type 0 where
+-- the same, and it refused the next, of which it tells
+pub record Stop (all : List ℕ) (keep : Taking → Bool) (before kept : Option (List Taking)) (why : Taking → Bool) : Type 0 where
   pub given : List Taking
   pub refused : Taking
   pub more : List Taking
   pub fault : Option DemuxFault
   pub ends : EndsOf all (given ++ (refused ∷ more)) fault
   pub took : Took keep before kept given
+  pub told : why refused ≡ true
 
-abbrev pub Tells_fault : DemuxFault → List ℕ → (Taking → Bool) → Option (List Taking) → Option (List Taking) → Type 0
-Tells_fault faults.NoMemory all keep before kept = Part all keep before kept
-Tells_fault faults.ReadFault all keep before kept = Part all keep before kept
-Tells_fault faults.Stopped all keep before kept = Stop all keep before kept
-Tells_fault f all keep before kept = Whole all (Some f) keep before kept
+abbrev pub Tells_fault : DemuxFault → List ℕ → (Taking → Bool) → Option (List Taking) → Option (List Taking) → (Taking → Bool) → Type 0
+Tells_fault faults.NoMemory all keep before kept why = Part all keep before kept
+Tells_fault faults.ReadFault all keep before kept why = Part all keep before kept
+Tells_fault faults.Stopped all keep before kept why = Stop all keep before kept why
+Tells_fault f all keep before kept why = Whole all (Some f) keep before kept
 
-abbrev pub Fault_told : DemuxFault → Option (List ℕ) → (Taking → Bool) → Option (List Taking) → Option (List Taking) → Type 0
-Fault_told f None keep before kept = ⊤
-Fault_told f (Some all) keep before kept = Tells_fault f all keep before kept
+abbrev pub Fault_told : DemuxFault → Option (List ℕ) → (Taking → Bool) → Option (List Taking) → Option (List Taking) → (Taking → Bool) → Type 0
+Fault_told f None keep before kept why = ⊤
+Fault_told f (Some all) keep before kept why = Tells_fault f all keep before kept why
 
 -- the input was read to its end, and is an archive
 abbrev pub End_told : Option (List ℕ) → Option (List ℕ) → (Taking → Bool) → Option (List Taking) → Option (List Taking) → Type 0
 End_told None now keep before kept = ⊤
 End_told (Some all) now keep before kept = (now ≡ Some []) × Whole all None keep before kept
 
-abbrev pub Tells : {U : Type 0} → Result U DemuxFault → Option (List ℕ) → Option (List ℕ) → (Taking → Bool) → Option (List Taking) → Option (List Taking) → Type 0
-Tells (Ok u) first now keep before kept = End_told first now keep before kept
-Tells (Err f) first now keep before kept = Fault_told f first keep before kept
+abbrev pub Tells : {U : Type 0} → Result U DemuxFault → Option (List ℕ) → Option (List ℕ) → (Taking → Bool) → Option (List Taking) → Option (List Taking) → (Taking → Bool) → Type 0
+Tells (Ok u) first now keep before kept why = End_told first now keep before kept
+Tells (Err f) first now keep before kept why = Fault_told f first keep before kept why
 
 -- one turn: on from another place, at the end, or a fault
-abbrev pub Turns : Result (Option ℕ) DemuxFault → Option (List ℕ) → Option (List ℕ) → Stage → List ℕ → (Taking → Bool) → Option (List Taking) → Option (List Taking) → Type 0
-Turns (Ok (Some at)) first now s held keep before kept = Stands first now s at held keep before kept
-Turns (Ok None) first now s held keep before kept = End_told first now keep before kept
-Turns (Err f) first now s held keep before kept = Fault_told f first keep before kept
+abbrev pub Turns : Result (Option ℕ) DemuxFault → Option (List ℕ) → Option (List ℕ) → Stage → List ℕ → (Taking → Bool) → Option (List Taking) → Option (List Taking) → (Taking → Bool) → Type 0
+Turns (Ok (Some at)) first now s held keep before kept why = Stands first now s at held keep before kept
+Turns (Ok None) first now s held keep before kept why = End_told first now keep before kept
+Turns (Err f) first now s held keep before kept why = Fault_told f first keep before kept why
 
 -- a clean front ends no more than the window's length before the last byte that was read
 pub record Ahead (all left : List ℕ) : Type 0 where

@@ -17,7 +17,7 @@ impl Progress {
         taker: &mut T,
     ) -> Result<(), DemuxFault>
         requires fresh { (T.stops taker.old ≡ 0) × (T.starved taker.old ≡ 0) }
-        ensures steps { Stepped result (stage_of self.new) (sound at (meta_step (stage_of self.old) at (metadata_in bytes.now)) (fault_in bytes.now)) (T.keeps taker.old) (T.kept taker.old) (T.kept taker.new) }
+        ensures steps { Stepped result (stage_of self.new) (sound at (meta_step (stage_of self.old) at (metadata_in bytes.now)) (fault_in bytes.now)) (T.keeps taker.old) (T.kept taker.old) (T.kept taker.new) (T.halted taker.new) }
         ensures same { T.keeps taker.new ≡ T.keeps taker.old }
         ensures fresh { OnOk result ((T.stops taker.new ≡ 0) × (T.starved taker.new ≡ 0)) }
         ensures stopped { IsErrOf result DemuxFault.Stopped → Rose (T.stops taker.old) (T.stops taker.new) }
@@ -40,7 +40,7 @@ impl Progress {
         taker: &mut T,
     ) -> Result<(), DemuxFault>
         requires fresh { (T.stops taker.old ≡ 0) × (T.starved taker.old ≡ 0) }
-        ensures steps { Stepped result (stage_of self.new) (sound at (doc_step (stage_of self.old) at i bytes.now (slice_get self.old.seen.items i)) (fault_in bytes.now)) (T.keeps taker.old) (T.kept taker.old) (T.kept taker.new) }
+        ensures steps { Stepped result (stage_of self.new) (sound at (doc_step (stage_of self.old) at i bytes.now (slice_get self.old.seen.items i)) (fault_in bytes.now)) (T.keeps taker.old) (T.kept taker.old) (T.kept taker.new) (T.halted taker.new) }
         ensures same { T.keeps taker.new ≡ T.keeps taker.old }
         ensures fresh { OnOk result ((T.stops taker.new ≡ 0) × (T.starved taker.new ≡ 0)) }
         ensures stopped { IsErrOf result DemuxFault.Stopped → Rose (T.stops taker.old) (T.stops taker.new) }
@@ -66,7 +66,7 @@ impl Progress {
         taker: &mut T,
     ) -> Result<(), DemuxFault>
         requires fresh { (T.stops taker.old ≡ 0) × (T.starved taker.old ≡ 0) }
-        ensures steps { Stepped result (stage_of self.new) (end_step (stage_of self.old) at i said (slice_get self.old.seen.items i)) (T.keeps taker.old) (T.kept taker.old) (T.kept taker.new) }
+        ensures steps { Stepped result (stage_of self.new) (end_step (stage_of self.old) at i said (slice_get self.old.seen.items i)) (T.keeps taker.old) (T.kept taker.old) (T.kept taker.new) (T.halted taker.new) }
         ensures same { T.keeps taker.new ≡ T.keeps taker.old }
         ensures fresh { OnOk result ((T.stops taker.new ≡ 0) × (T.starved taker.new ≡ 0)) }
         ensures stopped { IsErrOf result DemuxFault.Stopped → Rose (T.stops taker.old) (T.stops taker.new) }
@@ -92,7 +92,7 @@ impl Progress {
         taker: &mut T,
     ) -> Result<(), DemuxFault>
         requires fresh { (T.stops taker.old ≡ 0) × (T.starved taker.old ≡ 0) }
-        ensures steps { Stepped result (stage_of self.new) (step (stage_of self.old) at (document bytes.now)) (T.keeps taker.old) (T.kept taker.old) (T.kept taker.new) }
+        ensures steps { Stepped result (stage_of self.new) (step (stage_of self.old) at (document bytes.now)) (T.keeps taker.old) (T.kept taker.old) (T.kept taker.new) (T.halted taker.new) }
         ensures same { T.keeps taker.new ≡ T.keeps taker.old }
         ensures fresh { OnOk result ((T.stops taker.new ≡ 0) × (T.starved taker.new ≡ 0)) }
         ensures stopped { IsErrOf result DemuxFault.Stopped → Rose (T.stops taker.old) (T.stops taker.new) }
@@ -111,7 +111,7 @@ impl Progress {
     #[tactic(auto, unfolding(archive_format::specs::Archive::step_at))]
     fn terminator<T: DocTaker>(&mut self, at: u64, taker: &mut T) -> Result<(), DemuxFault>
         requires fresh { (T.stops taker.old ≡ 0) × (T.starved taker.old ≡ 0) }
-        ensures steps { Stepped result (stage_of self.new) (step (stage_of self.old) at terminator) (T.keeps taker.old) (T.kept taker.old) (T.kept taker.new) }
+        ensures steps { Stepped result (stage_of self.new) (step (stage_of self.old) at terminator) (T.keeps taker.old) (T.kept taker.old) (T.kept taker.new) (T.halted taker.new) }
         ensures same { T.keeps taker.new ≡ T.keeps taker.old }
         ensures fresh { OnOk result ((T.stops taker.new ≡ 0) × (T.starved taker.new ≡ 0)) }
         ensures stopped { IsErrOf result DemuxFault.Stopped → Rose (T.stops taker.old) (T.stops taker.new) }
@@ -143,7 +143,7 @@ impl Progress {
         taker: &mut T,
     ) -> Result<(), DemuxFault>
         requires fresh { (T.stops taker.old ≡ 0) × (T.starved taker.old ≡ 0) }
-        ensures steps { Stepped result (stage_of self.new) (step (stage_of self.old) at (item_of word.now bytes.now)) (T.keeps taker.old) (T.kept taker.old) (T.kept taker.new) }
+        ensures steps { Stepped result (stage_of self.new) (step (stage_of self.old) at (item_of word.now bytes.now)) (T.keeps taker.old) (T.kept taker.old) (T.kept taker.new) (T.halted taker.new) }
         ensures same { T.keeps taker.new ≡ T.keeps taker.old }
         ensures fresh { OnOk result ((T.stops taker.new ≡ 0) × (T.starved taker.new ≡ 0)) }
         ensures stopped { IsErrOf result DemuxFault.Stopped → Rose (T.stops taker.old) (T.stops taker.new) }
@@ -167,7 +167,7 @@ impl Progress {
         taker: &mut T,
     ) -> Result<Option<usize>, DemuxFault>
         requires fresh { (T.stops taker.old ≡ 0) × (T.starved taker.old ≡ 0) }
-        ensures turned { Turned result (stage_of self.new) (next (stage_of self.old) at held.now) (T.keeps taker.old) (T.kept taker.old) (T.kept taker.new) (stage_of self.old) }
+        ensures turned { Turned result (stage_of self.new) (next (stage_of self.old) at held.now) (T.keeps taker.old) (T.kept taker.old) (T.kept taker.new) (stage_of self.old) (T.halted taker.new) }
         ensures same { T.keeps taker.new ≡ T.keeps taker.old }
         ensures fresh { OnOk result ((T.stops taker.new ≡ 0) × (T.starved taker.new ≡ 0)) }
         ensures stopped { IsErrOf result DemuxFault.Stopped → Rose (T.stops taker.old) (T.stops taker.new) }

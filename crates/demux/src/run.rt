@@ -74,8 +74,8 @@ fn more<S: Source>(
     requires size { window.old.size ≡ 16793600 }
     requires short { next (stage_of progress.old) at (take (limit - at) window.old.bytes) ≡ short }
     ensures room { OnOk result (length window.new.bytes ≤ 16793600) }
-    ensures turns { (first : Option (List ℕ)) (keep : Taking → Bool) (before kept : Option (List Taking)) → Stands first (S.left source.old) (stage_of progress.old) at window.old.bytes keep before kept
-        → Turns result first (S.left source.new) (stage_of progress.new) window.new.bytes keep before kept }
+    ensures turns { (first : Option (List ℕ)) (keep why : Taking → Bool) (before kept : Option (List Taking)) → Stands first (S.left source.old) (stage_of progress.old) at window.old.bytes keep before kept
+        → Turns result first (S.left source.new) (stage_of progress.new) window.new.bytes keep before kept why }
     ensures size { window.new.size ≡ window.old.size }
     ensures on { IfOk result (λ r. IfSome r (λ b. (b ≡ at) × (length window.old.bytes < length window.new.bytes))) }
     ensures read_fault { IsErrOf result DemuxFault.ReadFault → Rose (S.faults source.old) (S.faults source.new) }
@@ -112,7 +112,7 @@ fn turn<S: Source, T: DocTaker>(
     requires room { length window.old.bytes ≤ 16793600 }
     ensures room { OnOk result (length window.new.bytes ≤ 16793600) }
     ensures turns { (first : Option (List ℕ)) (before : Option (List Taking)) → Stands first (S.left source.old) (stage_of progress.old) at window.old.bytes (T.keeps taker.old) before (T.kept taker.old)
-        → Turns result first (S.left source.new) (stage_of progress.new) window.new.bytes (T.keeps taker.old) before (T.kept taker.new) }
+        → Turns result first (S.left source.new) (stage_of progress.new) window.new.bytes (T.keeps taker.old) before (T.kept taker.new) (T.halted taker.new) }
     ensures same { T.keeps taker.new ≡ T.keeps taker.old }
     ensures size { window.new.size ≡ window.old.size }
     ensures on { IfOk result (λ r. IfSome r (λ b. (b ≤ limit) × (at + (at + length window.old.bytes) < b + (b + length window.new.bytes)))) }
@@ -165,7 +165,7 @@ impl Demux {
         taker: &mut T,
     ) -> Result<(), DemuxFault>
         requires fresh { (T.stops taker.old ≡ 0) × (T.starved taker.old ≡ 0) }
-        ensures told { Tells result (S.left source.old) (S.left source.new) (T.keeps taker.old) (T.kept taker.old) (T.kept taker.new) }
+        ensures told { Tells result (S.left source.old) (S.left source.new) (T.keeps taker.old) (T.kept taker.old) (T.kept taker.new) (T.halted taker.new) }
         ensures ahead { OnErr result (Ahead_told (S.left source.old) (S.left source.new)) }
         ensures read_fault { IsErrOf result DemuxFault.ReadFault → Rose (S.faults source.old) (S.faults source.new) }
         ensures stopped { IsErrOf result DemuxFault.Stopped → Rose 0 (T.stops taker.new) }

@@ -1,5 +1,5 @@
 //! Who is given what an archive holds.
-ghost use Rattle.std.specs.Prelude.{◌≡◌, ℕ, List, [], ◌∷◌, Bool, Option, None, OnOk, OnErr, IsErrOf};
+ghost use Rattle.std.specs.Prelude.{◌≡◌, ℕ, List, [], ◌∷◌, Bool, true, Option, None, OnOk, OnErr, IsErrOf};
 ghost use Rattle.tool_io.specs.Causes.{Rose};
 ghost use Rattle.archive_format.specs.Archive.{Taking, meta as meta_taking, doc as doc_taking, end as end_taking, fault_in};
 ghost use Rattle.demux.specs.Takes.{Took};
@@ -26,6 +26,8 @@ pub trait DocTaker {
     ghost stops: { Self → ℕ };
     /// How often it found no memory.
     ghost starved: { Self → ℕ };
+    /// What it tells, once it stopped, of the taking at which it did.
+    ghost halted: { Self → Taking → Bool };
 
     /// The metadata text of a namespace that isn't the oplog.
     fn meta(&mut self, ns: &NsName, text: &str) -> Result<(), Halt>
@@ -35,6 +37,7 @@ pub trait DocTaker {
         ensures same { keeps self.new ≡ keeps self.old }
         ensures fresh { OnOk result ((stops self.new ≡ 0) × (starved self.new ≡ 0)) }
         ensures stopped { IsErrOf result Halt.Stopped → Rose (stops self.old) (stops self.new) }
+        ensures halted { IsErrOf result Halt.Stopped → halted self.new (meta_taking ns.now text.now) ≡ true }
         ensures starved { IsErrOf result Halt.NoMemory → Rose (starved self.old) (starved self.new) };
 
     /// The bytes of a document of at most 16,793,600 bytes and 200 levels, as they lie in the window.
@@ -46,6 +49,7 @@ pub trait DocTaker {
         ensures same { keeps self.new ≡ keeps self.old }
         ensures fresh { OnOk result ((stops self.new ≡ 0) × (starved self.new ≡ 0)) }
         ensures stopped { IsErrOf result Halt.Stopped → Rose (stops self.old) (stops self.new) }
+        ensures halted { IsErrOf result Halt.Stopped → halted self.new (doc_taking ns.now bytes.now) ≡ true }
         ensures starved { IsErrOf result Halt.NoMemory → Rose (starved self.old) (starved self.new) };
 
     /// The end of a namespace, whose documents were all given.
@@ -56,5 +60,6 @@ pub trait DocTaker {
         ensures same { keeps self.new ≡ keeps self.old }
         ensures fresh { OnOk result ((stops self.new ≡ 0) × (starved self.new ≡ 0)) }
         ensures stopped { IsErrOf result Halt.Stopped → Rose (stops self.old) (stops self.new) }
+        ensures halted { IsErrOf result Halt.Stopped → halted self.new (end_taking ns.now) ≡ true }
         ensures starved { IsErrOf result Halt.NoMemory → Rose (starved self.old) (starved self.new) };
 }

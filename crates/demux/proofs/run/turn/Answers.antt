@@ -26,7 +26,7 @@ returns-in-Err-clause-turns g c = λ first before h.
     let old = g.T.DocTaker.kept c.args.taker.now in
     let new = g.T.DocTaker.kept c.item.new.taker in
     let w : c.within.result.now ≡ take (limit - c.args.at) c.args.window.now.bytes = c.within.ensures ∙ ap (take (limit - c.args.at)) c.held.ensures.bytes in
-    item_stuck keep before old new s c.args.at c.args.window.now.bytes first (g.S.Source.left c.args.source.now) c.in-Err.fault h (subst (λ y. Stuck c.in-Err.fault (next s c.args.at y) keep old new) w c.in-Err.ensures.turned)
+    item_stuck keep before old new (g.T.DocTaker.halted c.item.new.taker) s c.args.at c.args.window.now.bytes first (g.S.Source.left c.args.source.now) c.in-Err.fault h (subst (λ y. Stuck c.in-Err.fault (next s c.args.at y) keep old new (g.T.DocTaker.halted c.item.new.taker)) w c.in-Err.ensures.turned)
 
 pub returns-in-Ok-Some-clause-turns : goal.returns-in-Ok-Some-clause-turns
 returns-in-Ok-Some-clause-turns g c = λ first before h.
@@ -36,7 +36,7 @@ returns-in-Ok-Some-clause-turns g c = λ first before h.
     let new = g.T.DocTaker.kept c.item.new.taker in
     let u = rw c.in-Ok-Some.field-0-is at c.in-Ok-Some.ensures.turned in
     let w : c.within.result.now ≡ take (limit - c.args.at) c.args.window.now.bytes = c.within.ensures ∙ ap (take (limit - c.args.at)) c.held.ensures.bytes in
-    let k = item_taken keep before old new s c.args.at c.args.window.now.bytes first (g.S.Source.left c.args.source.now) (stage_of c.item.new.self) u.0 c.in-Ok-Some.size h (ap (next s c.args.at) (sym w) ∙ u.1) u.2 in
+    let k = item_taken keep before old new (g.T.DocTaker.halted c.item.new.taker) s c.args.at c.args.window.now.bytes first (g.S.Source.left c.args.source.now) (stage_of c.item.new.self) u.0 c.in-Ok-Some.size h (ap (next s c.args.at) (sym w) ∙ u.1) u.2 in
     rw c.skip.ensures k
 
 pub returns-in-Ok-Some-clause-on : goal.returns-in-Ok-Some-clause-on

@@ -11,7 +11,7 @@ returns-in-Ok-None-clause-told g c =
     let left = g.S.Source.left in
     let i = c.turns.invariant in
     let k = turned (Ok c.in-Ok-None.field-0) (left c.args.source.now) (left c.turns.source) (left c.turn.new.source) (stage_of c.turns.progress) (stage_of c.turn.new.progress) c.turns.at c.turns.window.bytes c.turn.new.window.bytes
-    (taker.keeps c.args.taker.now) (taker.keeps c.turns.taker) (taker.kept c.args.taker.now) (taker.kept c.turns.taker) (taker.kept c.turn.new.taker) i.same (c.in-Ok-None.ensures.turns (left c.args.source.now) (taker.kept c.args.taker.now)) i.stands in
+    (taker.keeps c.args.taker.now) (taker.keeps c.turns.taker) (taker.halted c.turn.new.taker) (taker.kept c.args.taker.now) (taker.kept c.turns.taker) (taker.kept c.turn.new.taker) i.same (c.in-Ok-None.ensures.turns (left c.args.source.now) (taker.kept c.args.taker.now)) i.stands in
     rw c.in-Ok-None.field-0-is at k
 
 pub returns-in-Err-clause-starved : goal.returns-in-Err-clause-starved
