@@ -343,7 +343,7 @@ module _ (D : List ℕ → List (List ℕ × Value) → Type 0) (A : List ℕ �
   one_again b (Value-F.Array vs) s = record { kind = refl; again = λ end rest. rw (arrays end b vs rest s) (ap (λ (v : Value). Ok (v, rest)) (sym (rolls-Array vs))) }
   one_again b (Value-F.ScopedCode t fs) s = record { kind = refl; again = λ end rest. rw (codes end b t fs rest s) (ap (λ (v : Value). Ok (v, rest)) (sym (rolls-ScopedCode t fs))) }
 
-  value_again : (b : List ℕ) (v : Value) → AreBytesOf D A b (out-Value v) → CanRead (value_with document array scoped) b v
+  pub value_again : (b : List ℕ) (v : Value) → AreBytesOf D A b (out-Value v) → CanRead (value_with document array scoped) b v
   value_again b v s =
       subst (λ (w : Value). CanReadAs (value_with document array scoped) (type_byte (out-Value v)) b w) (roll-out-Value v) (one_again b (out-Value v) s)
 

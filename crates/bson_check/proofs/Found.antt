@@ -484,7 +484,7 @@ module _ (D : List ℕ → List (List ℕ × Value) → Type 0) (A : List ℕ �
   of_nothing : (tag : ℕ) (bytes : List ℕ) (one : Value-F Value) (w : Value) (x : Value × List ℕ) → done (w, bytes) ≡ done x → w ≡ roll-Value one → tag ≡ type_byte one → AreBytesOf D A [] one → Took tag bytes x
   of_nothing tag bytes one w x e is kind spells = read_so tag bytes one w bytes [] x e is kind spells refl
 
-  value_found : (tag end : ℕ) (bytes : List ℕ) (x : Value × List ℕ) → value_with document array scoped tag end bytes ≡ Ok x → Took tag bytes x
+  pub value_found : (tag end : ℕ) (bytes : List ℕ) (x : Value × List ℕ) → value_with document array scoped tag end bytes ≡ Ok x → Took tag bytes x
   unfolding value_with
   value_found tag end bytes x e0 =
       elim (chosen (eqb tag 1) _ _ _ (e0)) [

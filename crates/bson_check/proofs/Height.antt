@@ -68,7 +68,7 @@ module _ (D E : List ℕ → List (List ℕ × Value) → Type 0) (A B : List �
   one_within b (Value-F.ScopedCode t fs) s le = (s.0, s.1, s.2, s.3, s.4, documents s.2 fs s.5 (omega (arith, le, code_levels t fs)), s.6)
   one_within b _ s le = s
 
-  value_within : (b : List ℕ) (v : Value) → AreBytesOf D A b (out-Value v) → levels_in v ≤ n → AreBytesOf E B b (out-Value v)
+  pub value_within : (b : List ℕ) (v : Value) → AreBytesOf D A b (out-Value v) → levels_in v ≤ n → AreBytesOf E B b (out-Value v)
   value_within b v s le = one_within b (out-Value v) s (omega (arith, le, levels_out v))
 
   fields_within : (b : List ℕ) (fs : List (List ℕ × Value)) → AreFields (λ c v. AreBytesOf D A c (out-Value v)) b fs → largest (map (λ e. levels_in e.1) fs) ≤ n → AreFields (λ c v. AreBytesOf E B c (out-Value v)) b fs

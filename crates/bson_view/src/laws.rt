@@ -1,0 +1,12 @@
+//! The laws of what bytes mean. Each function does nothing, and its caller learns the law.
+ghost use Rattle.bson_view.specs.Meaning.{OneDocument, OneValue};
+
+/// Bytes that spell a document mean that one.
+pub fn one_document()
+    ensures { OneDocument }
+{}
+
+/// Bytes that are a value of a type mean that one.
+pub fn one_value()
+    ensures { OneValue }
+{}

@@ -1,0 +1,13 @@
+//! Documents that are read where they lie, in the bytes that spell them.
+#![tactic(auto)]
+
+mod elem;
+mod elements;
+mod laws;
+mod view;
+
+pub use bson_check::BsonFault;
+pub use elem::Elem;
+pub use elements::Elements;
+pub use laws::{one_document, one_value};
+pub use view::View;

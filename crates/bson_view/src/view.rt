@@ -1,0 +1,70 @@
+//! A document read where it lies.
+ghost use Rattle.std.specs.Prelude.{◌≡◌, ◌↔◌, None, IsOk, IfOk, IfSome, option_map, length, IsTrue};
+ghost use Rattle.std.specs.Result.{result_err};
+ghost use Rattle.containers.specs.Entries.{lookup};
+ghost use Rattle.bson_check.specs.Spells.{SpellsWithin, IsSomeDocument};
+ghost use Rattle.bson_check.specs.Faults.{first_fault};
+ghost use Rattle.bson_view.specs.Meaning.{is_document, AreValue};
+
+use crate::elem::Elem;
+use crate::elements::Elements;
+use bson_check::{BsonFault, check};
+
+/// A document that was checked, borrowed from the bytes that spell it. It may be of any size and depth.
+#[derive(Clone, Copy, Debug)]
+pub struct View<'a> {
+    bytes: &'a [u8],
+    ghost checked: { IsTrue (is_document bytes.now) },
+}
+
+impl<'a> View<'a> {
+    ghost use Rattle.bson_view.specs.Views.{view_bytes, document, elem_value, parts_left};
+    ghost use Rattle.bson_view.specs.Parts.{fields_of};
+
+    /// The view of the bytes, where all of them are one document of at most `max` bytes and `depth`
+    /// levels. Else the first fault from the left, with its place in the bytes.
+    pub fn check(bytes: &'a [u8], max: usize, depth: usize) -> Result<View<'a>, BsonFault>
+        ensures spelled { IsOk result ↔ IsSomeDocument max depth bytes.now }
+        ensures fault { result_err result ≡ first_fault max depth bytes.now }
+        ensures bytes { IfOk result (λ v. view_bytes v ≡ bytes.now) }
+        ensures document { IfOk result (λ v. SpellsWithin max depth bytes.now (document v)) }
+    {
+        match check(bytes, max, depth) {
+            Ok(_) => Ok(View { bytes }),
+            Err(fault) => Err(fault),
+        }
+    }
+
+    /// The view of the bytes of one document of at most 16,793,600 bytes and 200 levels, as the tools
+    /// keep them.
+    pub fn of(bytes: &'a [u8]) -> View<'a>
+        requires { first_fault 16793600 200 bytes.now ≡ None }
+        ensures bytes { view_bytes result ≡ bytes.now }
+        ensures document { SpellsWithin 16793600 200 bytes.now (document result) }
+    {
+        View { bytes }
+    }
+
+    /// The whole spelling.
+    pub fn bytes(&self) -> &'a [u8]
+        ensures { result.now ≡ view_bytes self.now }
+    {
+        self.bytes
+    }
+
+    /// The elements in order.
+    pub fn elements(&self) -> Elements<'a>
+        ensures { fields_of (parts_left result) ≡ document self.now }
+    {
+        Elements::of_body(&self.bytes[4..self.bytes.len() - 1])
+    }
+
+    /// The field of this name.
+    pub fn field(&self, name: &str) -> Option<Elem<'a>>
+        ensures value { option_map elem_value result ≡ lookup name.now (document self.now) }
+        ensures name { IfSome result (λ e. e.name.now ≡ name.now) }
+        ensures spelled { IfSome result (λ e. AreValue e.tag e.value.now (elem_value e)) }
+    {
+        self.elements().named(name)
+    }
+}
