@@ -1,98 +1,69 @@
 -- What a call says, by the number of its status.
 use Rattle.std.proofs.Common.{ℕ, ◌≡◌, List, inl, inr, refl, sym, ◌∙◌, ap, subst}
-use Rattle.std.specs.Prelude.{Option, None, Some, Ok, Err, ◌++◌, ◌⊎◌, IfSome}
-use Rattle.std.specs.Io.KnownBytes.{Consumes, IsAtEnd}
-use Rattle.std.proofs.lemmas.List.{append-nil}
-use Rattle.tools_cli.specs.declared.status.Status.{Status}
-use Rattle.tools_cli.specs.declared.status.Status.TheVariants as is
-use Rattle.tools_cli.specs.declared.archive.Form.{Form}
-use Rattle.tools_cli.specs.declared.archive.Form.TheVariants as forms
+use Rattle.std.specs.Prelude.{Option, None, Some, Ok, Err, ◌⊎◌}
+use Rattle.state_listing.specs.Listing.{State}
+use Rattle.restore_base.specs.declared.collections.Stop.TheVariants as reasons
+use Rattle.restore_base.specs.Outcome.{Outcome, restores, refuses, stops, IsOutcome, OnInput}
+use Rattle.restore_base.proofs.Outcomes.{outcome_once}
 use Rattle.tools_cli.specs.declared.words.Verb.{Verb}
 use Rattle.tools_cli.specs.declared.words.Verb.TheVariants as verbs
-use Rattle.tools_cli.specs.Archive.{IsPrelude, form_of}
+use Rattle.tools_cli.specs.declared.words.Choice.{Choice}
+use Rattle.tools_cli.specs.declared.status.ArchiveFault.{ArchiveFault}
+use Rattle.tools_cli.specs.declared.status.ArchiveFault.TheVariants as refusals
+use Rattle.tools_cli.specs.declared.status.Status.{Status}
+use Rattle.tools_cli.specs.declared.status.Status.TheVariants as is
 use Rattle.tools_cli.specs.Words.{Meaning}
-use Rattle.tools_cli.specs.Ends.{Turn, Failed, WritesFront}
-use Rattle.tools_cli.specs.Answers.{Says, Told, Reports, RunsOut, Answers, HasForm, OfVerb, Restores, Done, shown, shown_by, code_of, form_code, code_by, due_code, IsDue}
-use Rattle.tools_cli.proofs.Accepted.{is_accepted}
-use Rattle.tools_cli.proofs.Telling.{whole_front, told_front, keeps_front}
+use Rattle.tools_cli.specs.Ends.{Turn, Failed}
+use Rattle.tools_cli.specs.Lines.{code_of}
+use Rattle.tools_cli.specs.Answers.{OfCommand, Restores, HasOutcome, outcome_of, ReadBy, IsShown, Shows, Says, Told, Reports, RunsOut, Answers, IsDue, IsDueBy, Gives, outcome_code}
+use Rattle.tools_cli.proofs.Telling.{told_front}
 
 -- The status that is due.
 
-pub due_form : (form : Form) (before after : Option (List ℕ)) (bytes : List ℕ) → Consumes before after bytes → IsAtEnd after → form_of bytes ≡ form
-    → IfSome (code_by verbs.Restore before) (λ n. form_code form ≡ n)
-due_form form None after bytes c e fits = tt
-due_form form (Some xs) None bytes c e fits = absurd c
-due_form form (Some xs) (Some ys) bytes c e fits =
-    let whole : xs ≡ bytes = c ∙ (ap (λ l. bytes ++ l) e ∙ append-nil bytes) in
-    ap form_code (sym fits ∙ ap form_of (sym whole))
+-- an input with this outcome
+outcome_due : (known : Option (List ℕ)) (o : Outcome) (code n : ℕ) (given : List Choice) → OnInput known (λ all. IsOutcome all o) → outcome_code o ≡ code → IsDueBy known n verbs.Restore given → code ≡ n
+outcome_due None o code n given is e d = let c = d.2 in cc
+outcome_due (Some all) o code n given is e d =
+    let same : Some all ≡ Some d.0 = d.2 in
+    let whole : all ≡ d.0 = cc in
+    let once : d.1 ≡ o = outcome_once d.0 d.1 o d.3 (subst (λ b. IsOutcome b o) whole is) in
+    sym e ∙ (ap outcome_code (sym once) ∙ sym d.4)
 
-pub is_due : (due : Option ℕ) (code : ℕ) (i o : Turn) → IfSome due (λ n. code ≡ n) → IfSome due (IsDue code i o)
-is_due None code i o h = tt
-is_due (Some n) code i o h = inl h
+by_restore : (m : Meaning) (o : Outcome) (code : ℕ) (i out : Turn) → Restores m → HasOutcome i o → outcome_code o ≡ code → (n : ℕ) → IsDue m i.before.bytes n → Gives code i out n
+by_restore (Err at) o code i out r h e n d = absurd r
+by_restore (Ok c) o code i out r h e n d =
+    let P : Verb → Type 0 = λ v. IsDueBy i.before.bytes n v c.1 in
+    inl (outcome_due i.before.bytes o code n c.1 h e (subst P r d))
 
--- an end failed, or memory was short
-pub not_due : (due : Option ℕ) (code : ℕ) (i o : Turn) → ((code ≡ 9) × Failed i) ⊎ (((code ≡ 10) × Failed o) ⊎ (code ≡ 11)) → IfSome due (IsDue code i o)
-not_due None code i o h = tt
-not_due (Some n) code i o h = inr h
+by_done : (v : Verb) (given : List Choice) (text : List ℕ) (i out : Turn) → IsShown i text v given → (n : ℕ) → IsDueBy i.before.bytes n v given → Gives 0 i out n
+by_done verbs.Restore given text i out h n d = inl (outcome_due i.before.bytes (restores h.0) 0 n given h.1 refl d)
+by_done verbs.Help given text i out h n d = inl (sym d)
+by_done verbs.Version given text i out h n d = inl (sym d)
 
-pub due_restored : (m : Meaning) (form : Form) (i o : Turn) → Restores m → HasForm form i → IfSome (due_code m i.before.bytes) (IsDue (form_code form) i o)
-due_restored (Err at) form i o restores h = absurd restores
-due_restored (Ok c) form i o restores h =
-    let P : Verb → Type 0 = λ v. IfSome (code_by v i.before.bytes) (IsDue (form_code form) i o) in
-    subst P (sym restores) (is_due (code_by verbs.Restore i.before.bytes) (form_code form) i o (due_form form i.before.bytes i.after.bytes h.0 h.1.taken h.1.ended h.2))
+due_done : (m : Meaning) (text : List ℕ) (i out : Turn) → OfCommand m (IsShown i text) → (n : ℕ) → IsDue m i.before.bytes n → Gives 0 i out n
+due_done (Err at) text i out h n d = absurd h
+due_done (Ok c) text i out h n d = by_done c.0 c.1 text i out h n d
 
-pub due_by : (v : Verb) (i o : Turn) → Done i o v → IfSome (code_by v i.before.bytes) (IsDue 0 i o)
-due_by verbs.Restore i o h = is_due (code_by verbs.Restore i.before.bytes) 0 i o (due_form forms.Prelude i.before.bytes i.after.bytes h.0.0 h.0.1.taken h.0.1.ended (is_accepted h.0.0 h.0.2))
-due_by verbs.Help i o h = inl refl
-due_by verbs.Version i o h = inl refl
+due_usage : (m : Meaning) (at : ℕ) (i out : Turn) → m ≡ Err at → (n : ℕ) → IsDue m i.before.bytes n → Gives 1 i out n
+due_usage m at i out e n d = let P : Meaning → Type 0 = λ k. IsDue k i.before.bytes n in inl (sym (subst P e d))
 
-pub due_done : (m : Meaning) (i o : Turn) → OfVerb m (Done i o) → IfSome (due_code m i.before.bytes) (IsDue 0 i o)
-due_done (Err at) i o h = absurd h
-due_done (Ok c) i o h = due_by c.0 i o h
-
-pub due_usage : (m : Meaning) (at : ℕ) (i o : Turn) → m ≡ Err at → IfSome (due_code m i.before.bytes) (IsDue 1 i o)
-due_usage m at i o e = let P : Meaning → Type 0 = λ n. IfSome (due_code n i.before.bytes) (IsDue 1 i o) in subst P (sym e) (inl refl)
-
--- a prelude that was told is due to be accepted
-pub due_accepted : (m : Meaning) (code : ℕ) (i o : Turn) → IfSome (due_code m i.before.bytes) (IsDue code i o) → Restores m → (bytes : List ℕ) → i.before.bytes ≡ Some bytes → IsPrelude bytes → IsDue code i o 0
-due_accepted (Err at) code i o due restores bytes is prelude = absurd restores
-due_accepted (Ok c) code i o due restores bytes is prelude =
-    let P : Verb → Type 0 = λ v. IfSome (code_by v i.before.bytes) (IsDue code i o) in
-    let Q : Option (List ℕ) → Type 0 = λ known. IfSome (code_by verbs.Restore known) (IsDue code i o) in
-    let R : Form → Type 0 = λ form. IsDue code i o (form_code form) in
-    subst R (is_accepted bytes prelude) (subst Q is (subst P restores due))
-
--- What was written so far is a front of what the command shows.
-
-pub done_front : (v : Verb) (i o : Turn) → Done i o v → WritesFront o (shown_by v)
-done_front verbs.Restore i o h = keeps_front o.before.bytes o.after.bytes (shown_by verbs.Restore) h.1
-done_front verbs.Help i o h = whole_front o (shown_by verbs.Help) h.1
-done_front verbs.Version i o h = whole_front o (shown_by verbs.Version) h.1
-
-pub says_front : (m : Meaning) (s : Status) (i o : Turn) → Says m s i o → WritesFront o (shown m)
-says_front (Ok c) is.Done i o h = done_front c.0 i o h
-says_front (Err at) is.Done i o h = absurd h
-says_front m (is.Usage at) i o h = keeps_front o.before.bytes o.after.bytes (shown m) h.2
-says_front m (is.BadArchive f) i o h = keeps_front o.before.bytes o.after.bytes (shown m) h.2
-says_front m is.ReadFault i o h = keeps_front o.before.bytes o.after.bytes (shown m) h.2
-says_front m is.WriteFault i o h = h.1
-says_front m is.NoMemory i o h = h
-says_front m is.Unbuilt i o h = keeps_front o.before.bytes o.after.bytes (shown m) h.2
+code_of_fault : (f : ArchiveFault) → outcome_code (outcome_of f) ≡ 3
+code_of_fault (refusals.Format f) = refl
+code_of_fault (refusals.NoId ns) = refl
 
 -- The whole call.
 
-pub told_answers : (m : Meaning) (s : Status) (i o r : Turn) → Says m s i o → Reports s r → Answers m (code_of s) i o r
+told_answers : (m : Meaning) (s : Status) (i o r : Turn) → Says m s i o → Reports s r → Answers m (code_of s) i o r
 told_answers m is.Done i o r h t = record {
   known = (is.Done, refl);
-  done = λ _. (h, t);
+  done = λ _. (h.0, h.1, t);
   usage = λ e. absurd cc;
   bad_archive = λ e. absurd cc;
   read_fault = λ e. absurd cc;
   write_fault = λ e. absurd cc;
   no_memory = λ e. absurd cc;
   unbuilt = λ e. absurd cc;
-  due = due_done m i o h;
-  accepted = due_accepted m _ i o (due_done m i o h);
+  due = due_done m h.1.0 i o h.1.1;
 }
 told_answers m (is.Usage at) i o r h t = record {
   known = (is.Usage at, refl);
@@ -104,7 +75,6 @@ told_answers m (is.Usage at) i o r h t = record {
   no_memory = λ e. absurd cc;
   unbuilt = λ e. absurd cc;
   due = due_usage m at i o h.0;
-  accepted = due_accepted m _ i o (due_usage m at i o h.0);
 }
 told_answers m (is.BadArchive f) i o r h t = record {
   known = (is.BadArchive f, refl);
@@ -115,8 +85,7 @@ told_answers m (is.BadArchive f) i o r h t = record {
   write_fault = λ e. absurd cc;
   no_memory = λ e. absurd cc;
   unbuilt = λ e. absurd cc;
-  due = due_restored m (forms.Bad f) i o h.0 h.1;
-  accepted = due_accepted m _ i o (due_restored m (forms.Bad f) i o h.0 h.1);
+  due = by_restore m (outcome_of f) 3 i o h.0 h.1 (code_of_fault f);
 }
 told_answers m is.ReadFault i o r h t = record {
   known = (is.ReadFault, refl);
@@ -127,8 +96,7 @@ told_answers m is.ReadFault i o r h t = record {
   write_fault = λ e. absurd cc;
   no_memory = λ e. absurd cc;
   unbuilt = λ e. absurd cc;
-  due = not_due (due_code m i.before.bytes) 9 i o (inl (refl, h.1));
-  accepted = due_accepted m _ i o (not_due (due_code m i.before.bytes) 9 i o (inl (refl, h.1)));
+  due = λ n d. inr (inl (refl, h.1));
 }
 told_answers m is.WriteFault i o r h t = record {
   known = (is.WriteFault, refl);
@@ -139,8 +107,7 @@ told_answers m is.WriteFault i o r h t = record {
   write_fault = λ _. (h.0, h.1, t);
   no_memory = λ e. absurd cc;
   unbuilt = λ e. absurd cc;
-  due = not_due (due_code m i.before.bytes) 10 i o (inr (inl (refl, h.0)));
-  accepted = due_accepted m _ i o (not_due (due_code m i.before.bytes) 10 i o (inr (inl (refl, h.0))));
+  due = λ n d. inr (inr (inl (refl, h.0)));
 }
 told_answers m is.NoMemory i o r h t = record {
   known = (is.NoMemory, refl);
@@ -149,10 +116,9 @@ told_answers m is.NoMemory i o r h t = record {
   bad_archive = λ e. absurd cc;
   read_fault = λ e. absurd cc;
   write_fault = λ e. absurd cc;
+  no_memory = λ _. (is.NoMemory, h, inl (told_front r _ t));
   unbuilt = λ e. absurd cc;
-  no_memory = λ _. (h, (is.NoMemory, h, inl (told_front r _ t)));
-  due = not_due (due_code m i.before.bytes) 11 i o (inr (inr refl));
-  accepted = due_accepted m _ i o (not_due (due_code m i.before.bytes) 11 i o (inr (inr refl)));
+  due = λ n d. inr (inr (inr refl));
 }
 told_answers m is.Unbuilt i o r h t = record {
   known = (is.Unbuilt, refl);
@@ -163,11 +129,10 @@ told_answers m is.Unbuilt i o r h t = record {
   write_fault = λ e. absurd cc;
   no_memory = λ e. absurd cc;
   unbuilt = λ _. (h.0, h.1, h.2, t);
-  due = due_restored m forms.Unbuilt i o h.0 h.1;
-  accepted = due_accepted m _ i o (due_restored m forms.Unbuilt i o h.0 h.1);
+  due = by_restore m (stops reasons.Unread) 12 i o h.0 h.1 refl;
 }
 
-pub out_answers : (m : Meaning) (s : Status) (i o r : Turn) → Says m s i o → RunsOut s r → Answers m 11 i o r
+out_answers : (m : Meaning) (s : Status) (i o r : Turn) → Says m s i o → RunsOut s r → Answers m 11 i o r
 out_answers m s i o r h t = record {
   known = (is.NoMemory, refl);
   done = λ e. absurd cc;
@@ -175,10 +140,9 @@ out_answers m s i o r h t = record {
   bad_archive = λ e. absurd cc;
   read_fault = λ e. absurd cc;
   write_fault = λ e. absurd cc;
+  no_memory = λ _. (s, h, t);
   unbuilt = λ e. absurd cc;
-  no_memory = λ _. (says_front m s i o h, (s, h, t));
-  due = not_due (due_code m i.before.bytes) 11 i o (inr (inr refl));
-  accepted = due_accepted m _ i o (not_due (due_code m i.before.bytes) 11 i o (inr (inr refl)));
+  due = λ n d. inr (inr (inr refl));
 }
 
 pub answers : (m : Meaning) (s f : Status) (i o r : Turn) → Says m s i o → Told s f r → Answers m (code_of f) i o r

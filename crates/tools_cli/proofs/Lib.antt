@@ -1,5 +1,2 @@
-pub mod Elements
-pub mod Walk
 pub mod Codes
 pub mod Telling
-pub mod Accepted

@@ -7,7 +7,8 @@ use Rattle.std.proofs.lemmas.List.{append-nil}
 use Rattle.tool_io.specs.Causes.{AppendsFront}
 use Rattle.tools_cli.specs.declared.status.Status.{Status}
 use Rattle.tools_cli.specs.declared.status.Status.TheVariants as is
-use Rattle.tools_cli.specs.Answers.{RunsOut, line_of, no_memory_line}
+use Rattle.tools_cli.specs.Answers.{RunsOut}
+use Rattle.tools_cli.specs.Lines.{line_of, no_memory_line}
 use Rattle.tools_cli.specs.Ends.{Turn, Writes, WritesFront, Tells}
 
 -- a whole piece is a front of it

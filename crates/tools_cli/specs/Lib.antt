@@ -1,4 +1,4 @@
 pub mod Words
-pub mod Archive
+pub mod Lines
 pub mod Answers
 pub mod Ends

@@ -4,6 +4,8 @@ use Rattle.std.specs.Prelude.{◌≡◌, ℕ, ◌+◌, Bool, true, false, List, 
 use Rattle.std.specs.List.{list_any, list_all}
 use Rattle.std.specs.Str.{bytes_eq}
 use Rattle.std.specs.declared.alloc.Global.{Global}
+use Rattle.state_listing.specs.declared.lines.ListForm.{ListForm}
+use Rattle.state_listing.specs.declared.lines.ListForm.TheVariants as forms
 use Rattle.tools_cli.specs.declared.words.Verb.{Verb}
 use Rattle.tools_cli.specs.declared.words.Verb.TheVariants as verbs
 use Rattle.tools_cli.specs.declared.words.Command.{Command}
@@ -21,21 +23,30 @@ commands = (codes "restore", verbs.Restore) ∷ (codes "--help", verbs.Help) ∷
 
 -- the words that may stand behind it, each at most once
 abbrev pub options : Verb → List (List ℕ × Choice)
-options verbs.Restore = (codes "--archive", choices.Archive) ∷ (codes "--form=hex", choices.FormHex) ∷ []
+options verbs.Restore = (codes "--archive", choices.Archive) ∷ (codes "--form=hex", choices.FormHex) ∷ (codes "--form=json", choices.FormJson) ∷ []
 options verbs.Help = []
 options verbs.Version = []
 
 -- those that must stand
 abbrev pub needed : Verb → List Choice
-needed verbs.Restore = choices.Archive ∷ choices.FormHex ∷ []
+needed verbs.Restore = choices.Archive ∷ []
 needed verbs.Help = []
 needed verbs.Version = []
 
--- whether two words are the same option
+-- whether two words are the same option, the form of the listing with any value
 abbrev pub same_option : Choice → Choice → Bool
 same_option choices.Archive choices.Archive = true
-same_option choices.FormHex choices.FormHex = true
-same_option _ _ = false
+same_option choices.Archive _ = false
+same_option _ choices.Archive = false
+same_option _ _ = true
+
+abbrev pub is_hex : Choice → Bool
+is_hex choices.FormHex = true
+is_hex _ = false
+
+-- the form of the listing: JSON, where nothing else is said
+abbrev pub form_of : List Choice → ListForm
+form_of given = if list_any is_hex given then forms.Hex else forms.Json
 
 abbrev pub has : Choice → List Choice → Bool
 has c given = list_any (λ g. same_option c g) given

@@ -1,16 +1,14 @@
 //! The top call.
 #![tactic(auto)]
 
-mod archive;
-mod input;
+mod listing;
 mod report;
 mod status;
 mod texts;
 mod top;
 mod words;
 
-pub use archive::{ArchiveFault, Form};
-pub use status::Status;
+pub use status::{ArchiveFault, Status};
 pub use top::tools;
 pub use words::{Choice, Command, Verb, WordsFault};
 

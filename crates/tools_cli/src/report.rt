@@ -1,10 +1,13 @@
 //! The lines of the report.
 ghost use Rattle.std.specs.Prelude.{◌≡◌, ◌⊎◌, IfOk, string_bytes};
-ghost use Rattle.tools_cli.specs.Ends.{turn, Tells, WritesFront};
-ghost use Rattle.tools_cli.specs.Answers.{Told, RunsOut, usage_line, refusal_line, no_memory_line, line_of};
+ghost use Rattle.tools_cli.specs.Ends.{turn, Tells};
+ghost use Rattle.tools_cli.specs.Answers.{Told, RunsOut};
+ghost use Rattle.tools_cli.specs.Lines.{kind_number, quoted_name, sum_text, bson_text, format_text, refusal_text, usage_line, refusal_line, line_of};
 
-use crate::archive::ArchiveFault;
-use crate::status::Status;
+use crate::status::{ArchiveFault, Status};
+use archive_format::DemuxFault;
+use bson_check::BsonKind;
+use bson_value::NsName;
 use std::alloc::{AllocError, Global};
 use tool_io::{Fault, Sink};
 
@@ -20,16 +23,113 @@ fn tell_line<R: Sink>(report: &mut R, line: &[u8], status: Status) -> Status
     }
 }
 
-fn usage_text(alloc: Global, word: usize) -> Result<String, AllocError>
+fn kind_number(kind: BsonKind) -> u8
+    ensures { result ≡ kind_number kind }
+{
+    match kind {
+        BsonKind::Short => 1,
+        BsonKind::Length => 2,
+        BsonKind::Tag => 3,
+        BsonKind::Text => 4,
+        BsonKind::Repeat => 5,
+        BsonKind::Deep => 6,
+        BsonKind::Bool => 7,
+        BsonKind::TooLong => 8,
+    }
+}
+
+// Database and collection, as a JSON string.
+fn quoted(alloc: Global, ns: &NsName) -> Result<String, AllocError>
+    ensures { IfOk result (λ s. string_bytes s ≡ quoted_name ns.now) }
+{
+    let name = state_listing::quoted_name(alloc, ns.db.as_str(), ns.coll.as_str())?;
+    Ok(name.into_string())
+}
+
+// A checksum in 16 digits.
+fn sum(alloc: Global, n: u64) -> Result<String, AllocError>
+    ensures { IfOk result (λ s. string_bytes s ≡ sum_text n) }
+{
+    let bytes = n.to_be_bytes();
+    hex::encode(alloc, bytes.as_slice())
+}
+
+fn crc_text(alloc: Global, ns: &NsName, said: u64, found: u64) -> Result<String, AllocError>
+    ensures { IfOk result (λ s. string_bytes s ≡ format_text (DemuxFault.Crc ns.now said found)) }
+{
+    let name = quoted(alloc, ns)?;
+    let said = sum(alloc, said)?;
+    let found = sum(alloc, found)?;
+    format!(in alloc; "crc of {name} said {said} found {found}")
+}
+
+fn bson_text(alloc: Global, at: u64, kind: u8) -> Result<String, AllocError>
+    ensures { IfOk result (λ s. string_bytes s ≡ bson_text at kind) }
+{
+    let document = format!(in alloc; "bad document at {at}")?;
+    format!(in alloc; "{document} kind {kind}")
+}
+
+fn after_end_text(alloc: Global, ns: &NsName, at: u64) -> Result<String, AllocError>
+    ensures { IfOk result (λ s. string_bytes s ≡ format_text (DemuxFault.AfterEnd ns.now at)) }
+{
+    let name = quoted(alloc, ns)?;
+    format!(in alloc; "after end of {name} at {at}")
+}
+
+fn not_ended_text(alloc: Global, ns: &NsName) -> Result<String, AllocError>
+    ensures { IfOk result (λ s. string_bytes s ≡ format_text (DemuxFault.NotEnded ns.now)) }
+{
+    let name = quoted(alloc, ns)?;
+    format!(in alloc; "{name} not ended")
+}
+
+// What is wrong with the bytes.
+fn format_text(alloc: Global, fault: &DemuxFault) -> Result<String, AllocError>
+    ensures { IfOk result (λ s. string_bytes s ≡ format_text fault.now) }
+{
+    match fault {
+        DemuxFault::BadMagic => format!(in alloc; "bad magic"),
+        DemuxFault::Truncated { at } => format!(in alloc; "truncated at {at}"),
+        DemuxFault::BadBson { at, kind } => bson_text(alloc, *at, kind_number(*kind)),
+        DemuxFault::BadPrelude { at } => format!(in alloc; "bad prelude at {at}"),
+        DemuxFault::BadHeader { at } => format!(in alloc; "bad header at {at}"),
+        DemuxFault::AfterEnd { ns, at } => after_end_text(alloc, ns, *at),
+        DemuxFault::DocsInEnd { at } => format!(in alloc; "document in end at {at}"),
+        DemuxFault::Crc { ns, said, found } => crc_text(alloc, ns, *said, *found),
+        DemuxFault::NotEnded { ns } => not_ended_text(alloc, ns),
+        DemuxFault::TooLong => format!(in alloc; "too long"),
+        DemuxFault::ReadFault | DemuxFault::Stopped | DemuxFault::NoMemory => Ok(String::new(alloc)),
+    }
+}
+
+fn no_id_text(alloc: Global, ns: &NsName) -> Result<String, AllocError>
+    ensures { IfOk result (λ s. string_bytes s ≡ refusal_text (ArchiveFault.NoId ns.now)) }
+{
+    let name = quoted(alloc, ns)?;
+    format!(in alloc; "no _id in {name}")
+}
+
+fn refusal_text(alloc: Global, fault: &ArchiveFault) -> Result<String, AllocError>
+    ensures { IfOk result (λ s. string_bytes s ≡ refusal_text fault.now) }
+{
+    match fault {
+        ArchiveFault::Format(fault) => format_text(alloc, fault),
+        ArchiveFault::NoId { ns } => no_id_text(alloc, ns),
+    }
+}
+
+fn refusal_line(alloc: Global, fault: &ArchiveFault) -> Result<String, AllocError>
+    ensures { IfOk result (λ s. string_bytes s ≡ refusal_line fault.now) }
+{
+    let text = refusal_text(alloc, fault)?;
+    format!(in alloc; "bad archive: {text}\n")
+}
+
+fn usage_line(alloc: Global, word: usize) -> Result<String, AllocError>
     ensures { IfOk result (λ s. string_bytes s ≡ usage_line word) }
 {
     format!(in alloc; "usage: word {word}\n")
-}
-
-fn truncated_text(alloc: Global, at: usize) -> Result<String, AllocError>
-    ensures { IfOk result (λ s. string_bytes s ≡ refusal_line (ArchiveFault.Truncated at)) }
-{
-    format!(in alloc; "bad archive: truncated at {at}\n")
 }
 
 // Tells a text that was made for this status, if there was memory for it.
@@ -44,22 +144,27 @@ fn tell_text<R: Sink>(report: &mut R, text: Result<String, AllocError>, status: 
     }
 }
 
+fn tell_refusal<R: Sink>(alloc: Global, fault: ArchiveFault, report: &mut R) -> Status
+    ensures { ((result ≡ Status.BadArchive fault) × Tells (turn (R.written report.old) (R.faults report.old) (R.written report.new) (R.faults report.new)) (line_of (Status.BadArchive fault)))
+        ⊎ ((result ≡ Status.NoMemory) × RunsOut (Status.BadArchive fault) (turn (R.written report.old) (R.faults report.old) (R.written report.new) (R.faults report.new))) }
+{
+    let text = refusal_line(alloc, &fault);
+    tell_text(report, text, Status::BadArchive(fault))
+}
+
 /// Tells the status on the report. A failing write changes nothing of it, and want of memory is the status then.
 pub fn tell<R: Sink>(alloc: Global, status: Status, report: &mut R) -> Status
     ensures { Told status result (turn (R.written report.old) (R.faults report.old) (R.written report.new) (R.faults report.new)) }
 {
     match status {
         Status::Done => Status::Done,
-        Status::Usage { word } => tell_text(report, usage_text(alloc, word), status),
-        Status::BadArchive(ArchiveFault::Truncated { at }) => {
-            tell_text(report, truncated_text(alloc, at), status)
+        Status::Usage { word } => {
+            tell_text(report, usage_line(alloc, word), Status::Usage { word })
         }
-        Status::BadArchive(ArchiveFault::BadMagic) => {
-            tell_line(report, b"bad archive: bad magic\n", status)
-        }
-        Status::ReadFault => tell_line(report, b"read fault\n", status),
-        Status::WriteFault => tell_line(report, b"write fault\n", status),
-        Status::NoMemory => tell_line(report, b"no memory\n", status),
-        Status::Unbuilt => tell_line(report, b"unbuilt\n", status),
+        Status::BadArchive(fault) => tell_refusal(alloc, fault, report),
+        Status::ReadFault => tell_line(report, b"read fault\n", Status::ReadFault),
+        Status::WriteFault => tell_line(report, b"write fault\n", Status::WriteFault),
+        Status::NoMemory => tell_line(report, b"no memory\n", Status::NoMemory),
+        Status::Unbuilt => tell_line(report, b"unbuilt\n", Status::Unbuilt),
     }
 }

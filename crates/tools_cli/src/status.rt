@@ -1,10 +1,20 @@
 ghost use Rattle.std.specs.Prelude.{◌≡◌};
-ghost use Rattle.tools_cli.specs.Answers.{code_of};
+ghost use Rattle.tools_cli.specs.Lines.{code_of};
 
-use crate::archive::ArchiveFault;
+use archive_format::DemuxFault;
+use bson_value::NsName;
+
+/// Why an input isn't restored.
+#[derive(Debug, Drop)]
+pub enum ArchiveFault {
+    /// It is no archive.
+    Format(DemuxFault),
+    /// A document outside the oplog has no `_id`.
+    NoId { ns: NsName },
+}
 
 /// How a call ended.
-#[derive(Clone, Copy, Debug, PartialEq, Eq)]
+#[derive(Debug, Drop)]
 pub enum Status {
     Done,
     /// The words aren't a command; the place is that of the first word that can't stand where it stands.
@@ -13,14 +23,14 @@ pub enum Status {
     ReadFault,
     WriteFault,
     NoMemory,
-    /// The input is something that isn't read yet.
+    /// The input has a metadata text that isn't empty, and these aren't read yet.
     Unbuilt,
 }
 
 impl Status {
     /// The exit status.
-    pub fn code(self) -> u8
-        ensures { result ≡ code_of self }
+    pub fn code(&self) -> u8
+        ensures { result ≡ code_of self.now }
     {
         match self {
             Status::Done => 0,

@@ -1,10 +1,10 @@
+//! The whole call.
 ghost use Rattle.std.specs.Prelude.{Ok};
 ghost use Rattle.tools_cli.specs.Words.{meaning_of, texts_of};
 ghost use Rattle.tools_cli.specs.Ends.{turn};
-ghost use Rattle.tools_cli.specs.Answers.{Says, Shows, Answers};
+ghost use Rattle.tools_cli.specs.Answers.{Says, Shown, Answers};
 
-use crate::archive::Form;
-use crate::input::read_input;
+use crate::listing::list_archive;
 use crate::report::tell;
 use crate::status::Status;
 use crate::texts::{HELP, VERSION};
@@ -15,7 +15,7 @@ use tool_io::{Fault, Sink, Source};
 
 // Writes a text that the command shows.
 fn show<K: Sink>(text: &str, output: &mut K) -> Status
-    ensures { Shows text.now result (turn (K.written output.old) (K.faults output.old) (K.written output.new) (K.faults output.new)) }
+    ensures { Shown text.now result (turn (K.written output.old) (K.faults output.old) (K.written output.new) (K.faults output.new)) }
 {
     match output.write(text.as_bytes()) {
         Ok(()) => Status::Done,
@@ -25,7 +25,6 @@ fn show<K: Sink>(text: &str, output: &mut K) -> Status
 }
 
 // What the command does, without its line on the report.
-#[tactic(auto, using(crate::proofs::Accepted::accepted_is))]
 fn perform<S: Source, K: Sink>(
     alloc: Global,
     command: &Command,
@@ -37,13 +36,7 @@ fn perform<S: Source, K: Sink>(
         (turn (K.written output.old) (K.faults output.old) (K.written output.new) (K.faults output.new)) }
 {
     match command.verb {
-        Verb::Restore => match read_input(alloc, input) {
-            Ok(Form::Prelude) => Status::Done,
-            Ok(Form::Bad(fault)) => Status::BadArchive(fault),
-            Ok(Form::Unbuilt) => Status::Unbuilt,
-            Err(Fault::Failed) => Status::ReadFault,
-            Err(Fault::NoMemory) => Status::NoMemory,
-        },
+        Verb::Restore => list_archive(alloc, command, input, output),
         Verb::Help => show(HELP, output),
         Verb::Version => show(VERSION, output),
     }

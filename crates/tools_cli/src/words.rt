@@ -1,7 +1,9 @@
 //! The words of the command line.
 ghost use Rattle.std.specs.Prelude.{◌≡◌, ◌+◌, ◌<◌, ◌^◌, [], length, Ok, Err};
-ghost use Rattle.tools_cli.specs.Words.{Meaning, commands, options, needed, same_option, has, is_complete, row_of, choice_of, options_of, meaning_of, texts_of, Means};
+ghost use Rattle.std.specs.List.{list_any};
+ghost use Rattle.tools_cli.specs.Words.{Meaning, commands, options, needed, same_option, is_hex, form_of, has, is_complete, row_of, choice_of, options_of, meaning_of, texts_of, Means};
 
+use state_listing::ListForm;
 use std::alloc::{AllocError, AllocFailed, Global};
 
 /// What a command does.
@@ -17,6 +19,7 @@ pub enum Verb {
 pub enum Choice {
     Archive,
     FormHex,
+    FormJson,
 }
 
 /// A command and its options, in the order in which they stand.
@@ -24,6 +27,25 @@ pub enum Choice {
 pub struct Command {
     pub verb: Verb,
     pub choices: Vec<Choice>,
+}
+
+impl Command {
+    fn has_hex(&self) -> bool
+        ensures { result ≡ list_any is_hex self.now.choices.items }
+    {
+        self.choices.iter().any(|choice| choice.is_hex())
+    }
+
+    /// How documents are listed: as JSON, where nothing else is said.
+    pub fn form(&self) -> ListForm
+        ensures { result ≡ form_of self.now.choices.items }
+    {
+        if self.has_hex() {
+            ListForm::Hex
+        } else {
+            ListForm::Json
+        }
+    }
 }
 
 /// Why words are no command.
@@ -60,10 +82,16 @@ impl Choice {
     {
         match (self, other) {
             (Choice::Archive, Choice::Archive) => true,
-            (Choice::FormHex, Choice::FormHex) => true,
-            (Choice::Archive, Choice::FormHex) => false,
-            (Choice::FormHex, Choice::Archive) => false,
+            (Choice::Archive, _) => false,
+            (_, Choice::Archive) => false,
+            (_, _) => true,
         }
+    }
+
+    fn is_hex(self) -> bool
+        ensures { result ≡ is_hex self }
+    {
+        matches!(self, Choice::FormHex)
     }
 
     fn is_among(self, given: &[Choice]) -> bool
@@ -93,6 +121,7 @@ fn option_of(verb: Verb, word: &str) -> Option<Choice>
         Verb::Restore => match word {
             "--archive" => Some(Choice::Archive),
             "--form=hex" => Some(Choice::FormHex),
+            "--form=json" => Some(Choice::FormJson),
             _ => None,
         },
         Verb::Help | Verb::Version => None,
@@ -103,7 +132,7 @@ fn needed(verb: Verb) -> &'static [Choice]
     ensures { result.now ≡ needed verb }
 {
     match verb {
-        Verb::Restore => &[Choice::Archive, Choice::FormHex],
+        Verb::Restore => &[Choice::Archive],
         Verb::Help | Verb::Version => &[],
     }
 }

@@ -1,0 +1,4 @@
+pub mod Outcomes
+mod Maps
+mod Fronts
+mod Texts

@@ -1,0 +1,178 @@
+-- The outcome of an input: there is one, and what a run tells shows it.
+use Rattle.std.proofs.Common.{◌≡◌, ℕ, Bool, true, false, List, [], ◌∷◌, ◌++◌, take, length, map, ◌≤◌, arith, refl, sym, ap, subst, ◌∙◌, cond}
+use Rattle.std.specs.Prelude.{Option, Some, None, IsSome, nat_lt, filter, not, ◌||◌, ◌&&◌, bytes_eq}
+use Rattle.std.proofs.lemmas.List.{map-append}
+use Rattle.std.proofs.lemmas.Slice.Eq.{bytes_eq-Decides}
+use Rattle.bson_value.specs.declared.namespace.NsName.{NsName}
+use Rattle.archive_format.specs.declared.fault.DemuxFault.{DemuxFault}
+use Rattle.archive_format.specs.Shapes.{is_oplog}
+use Rattle.archive_format.specs.Archive.{Taking, meta, doc, end, start, limit, EndsOf, Content, same_ns}
+use Rattle.archive_format.proofs.Fold.{ends_total, ends_unique, content_ends, ends_content}
+use Rattle.archive_format.specs.declared.fault.DemuxFault.TheVariants as faults
+use Rattle.tool_io.specs.Causes.{Rose}
+use Rattle.demux.specs.Told.{Whole, Stop as Stopped, Tells_fault, Fault_told, End_told}
+use Rattle.restore_base.specs.declared.collections.Kept.{Kept}
+use Rattle.restore_base.specs.Kept.{taking_of, takings_in}
+use Rattle.restore_base.specs.Taken.{count_of}
+use Rattle.restore_base.specs.declared.collections.Stop.{Stop}
+use Rattle.restore_base.specs.declared.collections.Stop.TheVariants.{NoId, Unread}
+use Rattle.restore_base.specs.Base.{is_of_collection, base, restored, stop_at, or_later, first_stop, same_stop}
+use Rattle.restore_base.specs.Outcome.{Outcome, restores, refuses, stops, IsOutcome, OnInput, is_format}
+
+-- ---- one outcome
+
+abbrev Same_end : List Taking → List Taking → Option DemuxFault → Option DemuxFault → Type 0
+Same_end ts us e f = (ts ≡ us) × (e ≡ f)
+
+once : (bytes : List ℕ) (ts us : List Taking) (e f : Option DemuxFault) → EndsOf bytes ts e → EndsOf bytes us f → Same_end ts us e f
+once bytes ts us e f p q = ends_unique start 0 (take limit bytes) (nat_lt limit (length bytes)) ts us e f p q
+
+never_both : (bytes : List ℕ) (ts us : List Taking) (e f : Option DemuxFault) (s : Stop) → EndsOf bytes ts e → EndsOf bytes us f → first_stop ts ≡ None → first_stop us ≡ Some s → ⊥
+never_both bytes ts us e f s p q a b =
+    let k = ap first_stop (once bytes ts us e f p q).0 in
+    let x : None ≡ Some s = sym a ∙ (k ∙ b) in cc
+
+never_fault : (bytes : List ℕ) (ts us : List Taking) (f : DemuxFault) → EndsOf bytes ts None → EndsOf bytes us (Some f) → ⊥
+never_fault bytes ts us f p q = let k = (once bytes ts us None (Some f) p q).1 in cc
+
+same_state : (bytes : List ℕ) (ts us : List Taking) → Content bytes ts → Content bytes us → restored ts ≡ restored us
+same_state bytes ts us p q = ap restored (once bytes ts us None None (content_ends bytes ts p) (content_ends bytes us q)).0
+
+same_fault : (bytes : List ℕ) (ts us : List Taking) (f h : DemuxFault) → EndsOf bytes ts (Some f) → EndsOf bytes us (Some h) → f ≡ h
+same_fault bytes ts us f h p q = let k = (once bytes ts us (Some f) (Some h) p q).1 in cc
+
+same_reason : (bytes : List ℕ) (ts us : List Taking) (e f : Option DemuxFault) (s t : Stop) → EndsOf bytes ts e → EndsOf bytes us f → first_stop ts ≡ Some s → first_stop us ≡ Some t → s ≡ t
+same_reason bytes ts us e f s t p q a b =
+    let k = ap first_stop (once bytes ts us e f p q).0 in
+    let x : Some s ≡ Some t = sym a ∙ (k ∙ b) in cc
+
+pub outcome_once : (bytes : List ℕ) (o p : Outcome) → IsOutcome bytes o → IsOutcome bytes p → o ≡ p
+outcome_once bytes (restores s) (restores t) a b = ap restores (a.3 ∙ (same_state bytes a.0 b.0 a.1 b.1 ∙ sym b.3))
+outcome_once bytes (restores s) (refuses f) a b = absurd (never_fault bytes a.0 b.0 f (content_ends bytes a.0 a.1) b.1)
+outcome_once bytes (restores s) (stops t) a b = absurd (never_both bytes a.0 b.0 None b.1 t (content_ends bytes a.0 a.1) b.2 a.2 b.3)
+outcome_once bytes (refuses f) (restores t) a b = absurd (never_fault bytes b.0 a.0 f (content_ends bytes b.0 b.1) a.1)
+outcome_once bytes (refuses f) (refuses h) a b = ap refuses (same_fault bytes a.0 b.0 f h a.1 b.1)
+outcome_once bytes (refuses f) (stops t) a b = absurd (never_both bytes a.0 b.0 (Some f) b.1 t a.1 b.2 a.2 b.3)
+outcome_once bytes (stops s) (restores t) a b = absurd (never_both bytes b.0 a.0 None a.1 s (content_ends bytes b.0 b.1) a.2 b.2 a.3)
+outcome_once bytes (stops s) (refuses f) a b = absurd (never_both bytes b.0 a.0 (Some f) a.1 s b.1 a.2 b.2 a.3)
+outcome_once bytes (stops s) (stops t) a b = ap stops (same_reason bytes a.0 b.0 a.1 b.1 s t a.2 b.2 a.3 b.3)
+
+abbrev Some_outcome : List ℕ → Type 0
+Some_outcome bytes = (o : Outcome) × IsOutcome bytes o
+
+by_end : (bytes : List ℕ) (ts : List Taking) (e : Option DemuxFault) (x : Option Stop) → first_stop ts ≡ x → EndsOf bytes ts e → Some_outcome bytes
+by_end bytes ts e (Some s) is p = (stops s, (ts, e, p, is))
+by_end bytes ts (Some f) None is p = (refuses f, (ts, p, is))
+by_end bytes ts None None is p = (restores (restored ts), (ts, ends_content bytes ts p, is, refl))
+
+pub outcome_total : (bytes : List ℕ) → Some_outcome bytes
+outcome_total bytes =
+    let k = ends_total start 0 (take limit bytes) (nat_lt limit (length bytes)) in
+    by_end bytes k.takings k.fault (first_stop k.takings) refl k.ends
+
+-- ---- what isn't of a collection is never refused
+
+or_true : (b c : Bool) → not b ≡ false → (b || c) ≡ true
+or_true true c e = refl
+or_true false c e = cc
+
+passed : (b c : Bool) (s : Stop) → not b ≡ false → cond (b || c) None (Some s) ≡ None
+passed b c s e = rw (or_true b c e) refl
+
+oplog_taken : (t : Taking) → is_of_collection t ≡ false → stop_at t ≡ None
+oplog_taken (meta n x) e = passed (is_oplog n) _ Unread e
+oplog_taken (doc n b) e = passed (is_oplog n) _ (NoId n) e
+oplog_taken (end n) e = refl
+
+filtered : (b : Bool) (t : Taking) (ts us : List Taking) → (b ≡ false → stop_at t ≡ None) → first_stop us ≡ first_stop ts → first_stop (cond b (t ∷ us) us) ≡ first_stop (t ∷ ts)
+filtered true t ts us h e = ap (or_later (stop_at t)) e
+filtered false t ts us h e = e ∙ ap (λ o. or_later o (first_stop ts)) (sym (h refl))
+
+first_stop-filter : (ts : List Taking) → first_stop (filter is_of_collection ts) ≡ first_stop ts
+first_stop-filter [] = refl
+first_stop-filter (t ∷ ts) = filtered (is_of_collection t) t ts (filter is_of_collection ts) (oplog_taken t) (first_stop-filter ts)
+
+behind : (o : Option Stop) (ts us : List Taking) → (first_stop ts ≡ None → first_stop (ts ++ us) ≡ first_stop us) → or_later o (first_stop ts) ≡ None → or_later o (first_stop (ts ++ us)) ≡ first_stop us
+behind None ts us h e = h e
+behind (Some s) ts us h e = cc
+
+pub first_stop-append : (ts us : List Taking) → first_stop ts ≡ None → first_stop (ts ++ us) ≡ first_stop us
+first_stop-append [] us e = refl
+first_stop-append (t ∷ ts) us e = behind (stop_at t) ts us (first_stop-append ts us) e
+
+both : (a b : Bool) → (a && b) ≡ true → (a ≡ true) × (b ≡ true)
+both true b e = (refl, e)
+both false b e = cc
+
+same_names : (n m : NsName) → same_ns n m ≡ true → n ≡ m
+same_names n m e =
+    let k = both (bytes_eq n.db m.db) (bytes_eq n.coll m.coll) e in
+    let d : n.db ≡ m.db = (bytes_eq-Decides n.db m.db).0 k.0 in
+    let c : n.coll ≡ m.coll = (bytes_eq-Decides n.coll m.coll).0 k.1 in
+    λ i. record { db = d i; coll = c i }
+
+one_reason : (s : Stop) (o : Option Stop) → same_stop (Some s) o ≡ true → o ≡ Some s
+one_reason (NoId n) (Some (NoId m)) e = ap (λ k. Some (NoId k)) (sym (same_names n m e))
+one_reason (NoId n) (Some Unread) e = cc
+one_reason (NoId n) None e = cc
+one_reason Unread (Some (NoId m)) e = cc
+one_reason Unread (Some Unread) e = refl
+one_reason Unread None e = cc
+
+-- ---- what a run tells
+
+module _ (c0 c : List Taking) (begins : c0 ≡ []) (fine : first_stop c ≡ None) where
+  kept : (given : List Taking) → c ≡ c0 ++ filter is_of_collection given → c ≡ filter is_of_collection given
+  kept given e = e ∙ ap (λ z. z ++ filter is_of_collection given) begins
+
+  taken : (given : List Taking) → c ≡ c0 ++ filter is_of_collection given → first_stop given ≡ None
+  taken given e = sym (first_stop-filter given) ∙ (ap first_stop (sym (kept given e)) ∙ fine)
+
+  pub restores_all : (all : List ℕ) → Whole all None is_of_collection (Some c0) (Some c) → IsOutcome all (restores (base c))
+  restores_all all w = (w.given, ends_content all w.given w.ends, taken w.given w.took, ap base (kept w.given w.took))
+
+  pub refuses_all : (all : List ℕ) (f : DemuxFault) → Whole all (Some f) is_of_collection (Some c0) (Some c) → IsOutcome all (refuses f)
+  refuses_all all f w = (w.given, w.ends, taken w.given w.took)
+
+  pub stops_all : (all : List ℕ) (s : Stop) (o : Option Stop) → o ≡ Some s → Stopped all is_of_collection (Some c0) (Some c) (λ t. same_stop o (stop_at t)) → IsOutcome all (stops s)
+  stops_all all s o is w =
+      let told : same_stop (Some s) (stop_at w.refused) ≡ true = subst (λ x. same_stop x (stop_at w.refused) ≡ true) is w.told in
+      let here : first_stop (w.refused ∷ w.more) ≡ Some s = ap (λ x. or_later x (first_stop w.more)) (one_reason s (stop_at w.refused) told) in
+      (w.given ++ (w.refused ∷ w.more), w.fault, w.ends, first_stop-append w.given (w.refused ∷ w.more) (taken w.given w.took) ∙ here)
+
+  pub told_format : (first : Option (List ℕ)) (f : DemuxFault) (why : Taking → Bool) → is_format f ≡ true → Fault_told f first is_of_collection (Some c0) (Some c) why → OnInput first (λ all. IsOutcome all (refuses f))
+  told_format None f why is w = tt
+  told_format (Some all) f why is w = refuses_all all f (whole_told all f why is w)
+    where
+      whole_told : (all : List ℕ) (f : DemuxFault) (why : Taking → Bool) → is_format f ≡ true → Tells_fault f all is_of_collection (Some c0) (Some c) why → Whole all (Some f) is_of_collection (Some c0) (Some c)
+      whole_told all faults.ReadFault why is w = cc
+      whole_told all faults.Stopped why is w = cc
+      whole_told all faults.NoMemory why is w = cc
+      whole_told all faults.BadMagic why is w = w
+      whole_told all (faults.Truncated a) why is w = w
+      whole_told all (faults.BadBson a k) why is w = w
+      whole_told all (faults.BadPrelude a) why is w = w
+      whole_told all (faults.BadHeader a) why is w = w
+      whole_told all (faults.AfterEnd n a) why is w = w
+      whole_told all (faults.DocsInEnd a) why is w = w
+      whole_told all (faults.Crc n a b) why is w = w
+      whole_told all (faults.NotEnded n) why is w = w
+      whole_told all faults.TooLong why is w = w
+
+  pub told_restored : (first now : Option (List ℕ)) → End_told first now is_of_collection (Some c0) (Some c) → OnInput first (λ all. (now ≡ Some []) × IsOutcome all (restores (base c)))
+  told_restored None now w = tt
+  told_restored (Some all) now w = (w.0, restores_all all w.1)
+
+  pub told_stopped : (first : Option (List ℕ)) (s : Stop) (o : Option Stop) → o ≡ Some s → Fault_told faults.Stopped first is_of_collection (Some c0) (Some c) (λ t. same_stop o (stop_at t)) → OnInput first (λ all. IsOutcome all (stops s))
+  told_stopped None s o is w = tt
+  told_stopped (Some all) s o is w = stops_all all s o is w
+
+-- a taker that stopped has a reason
+pub has_stopped : (o : Option Stop) → Rose 0 (count_of o) → IsSome o
+has_stopped None r = absurd (let one : 1 ≤ 0 = r in omega (arith, one))
+has_stopped (Some s) r = refl
+
+-- one more taking that is none to stop at
+pub kept_more : (ks : List Kept) (k : Kept) → first_stop (takings_in ks) ≡ None → stop_at (taking_of k) ≡ None → first_stop (takings_in (ks ++ k ∷ [])) ≡ None
+kept_more ks k e n =
+    ap first_stop (map-append taking_of ks (k ∷ [])) ∙ (first_stop-append (takings_in ks) (taking_of k ∷ []) e ∙ ap (λ o. or_later o None) n)

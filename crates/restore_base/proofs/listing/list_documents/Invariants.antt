@@ -1,0 +1,10 @@
+use Rattle.std.proofs.Common.{◌≤◌}
+use Rattle.restore_base.proofs.Texts.{documents_text}
+use Rattle.restore_base.proofs.Fronts.{Left}
+use Rattle.restore_base.proofs.listing.list_documents.Given as goal
+
+abbrev pub invariant-documents : goal.invariant-documents
+invariant-documents g l = record {
+  left : Left (g.K.Sink.written l.fn.sink) (g.K.Sink.written l.sink) (documents_text l.form l.documents.entries) (documents_text l.form l.bytes-iterator);
+  later : g.K.Sink.faults l.fn.sink ≤ g.K.Sink.faults l.sink;
+}

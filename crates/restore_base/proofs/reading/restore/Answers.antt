@@ -1,0 +1,29 @@
+use Rattle.std.proofs.Common.{◌≡◌, Bool, subst, sym}
+use Rattle.archive_format.specs.declared.fault.DemuxFault.{DemuxFault}
+use Rattle.archive_format.specs.Archive.{Taking}
+use Rattle.demux.specs.Told.{Fault_told}
+use Rattle.restore_base.specs.Base.{same_stop, stop_at}
+use Rattle.restore_base.specs.declared.reading.RestoreFault.TheVariants as reasons
+use Rattle.restore_base.specs.Taken.{takings_of}
+use Rattle.restore_base.proofs.Outcomes.{told_restored, told_format, told_stopped}
+use Rattle.restore_base.proofs.reading.restore.Goals as goal
+
+pub returns-in-Ok-run-clause-restored : goal.returns-in-Ok-run-clause-restored
+returns-in-Ok-run-clause-restored g c =
+    let left = g.S.Source.left in
+    told_restored (takings_of c.new-collections.result) (takings_of c.run.new.taker) c.new-collections.ensures.takings c.run.new.taker.taken (left c.args.source.now) (left c.run.new.source) c.in-Ok-run.ensures.told
+
+pub returns-in-Err-clause-format : goal.returns-in-Err-clause-format
+returns-in-Err-clause-format g c = λ f e.
+    let is : c.fault_of.result ≡ reasons.Format f = cc in
+    let k = c.fault_of.ensures.format f is in
+    let first = g.S.Source.left c.args.source.now in
+    let why : Taking → Bool = λ t. same_stop c.run.new.taker.stop (stop_at t) in
+    told_format (takings_of c.new-collections.result) (takings_of c.run.new.taker) c.new-collections.ensures.takings c.run.new.taker.taken first f why k.1 (rw k.0 at c.in-Err.ensures.told)
+
+pub returns-in-Err-clause-stopped : goal.returns-in-Err-clause-stopped
+returns-in-Err-clause-stopped g c = λ s e.
+    let is : c.fault_of.result ≡ reasons.Stopped s = cc in
+    let k = c.fault_of.ensures.stopped s is in
+    let first = g.S.Source.left c.args.source.now in
+    told_stopped (takings_of c.new-collections.result) (takings_of c.run.new.taker) c.new-collections.ensures.takings c.run.new.taker.taken first s c.run.new.taker.stop k.1 (rw k.0 at c.in-Err.ensures.told)

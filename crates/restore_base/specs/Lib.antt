@@ -1,0 +1,5 @@
+pub mod Base
+pub mod Kept
+pub mod Gathered
+pub mod Taken
+pub mod Outcome

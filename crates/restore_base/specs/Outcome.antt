@@ -1,0 +1,35 @@
+-- What a restore makes of an input: the state of its takings, or why there is none.
+use Rattle.std.specs.Prelude.{⊤, ◌≡◌, ℕ, Bool, true, false, List, [], Option, Some, None}
+use Rattle.archive_format.specs.declared.fault.DemuxFault.{DemuxFault}
+use Rattle.archive_format.specs.declared.fault.DemuxFault.TheVariants as faults
+use Rattle.archive_format.specs.Archive.{Taking, Content, EndsOf}
+use Rattle.state_listing.specs.Listing.{State}
+use Rattle.restore_base.specs.declared.collections.Stop.{Stop}
+use Rattle.restore_base.specs.Base.{restored, first_stop}
+
+pub data Outcome : Type 0 where
+  restores : State → Outcome
+  refuses : DemuxFault → Outcome
+  stops : Stop → Outcome
+
+-- an archive none of whose takings is refused, a fault of the format behind a clean front of such takings, or the first taking that is refused
+abbrev pub IsOutcome : List ℕ → Outcome → Type 0
+IsOutcome bytes (restores s) = (ts : List Taking) × Content bytes ts × (first_stop ts ≡ None) × (s ≡ restored ts)
+IsOutcome bytes (refuses f) = (ts : List Taking) × EndsOf bytes ts (Some f) × (first_stop ts ≡ None)
+IsOutcome bytes (stops s) = (ts : List Taking) × (e : Option DemuxFault) × EndsOf bytes ts e × (first_stop ts ≡ Some s)
+
+-- a fault of the bytes, and not of an end or of memory
+abbrev pub is_format : DemuxFault → Bool
+is_format faults.ReadFault = false
+is_format faults.Stopped = false
+is_format faults.NoMemory = false
+is_format _ = true
+
+-- a fact about an input that is known
+abbrev pub OnInput : Option (List ℕ) → (List ℕ → Type 0) → Type 0
+OnInput None P = ⊤
+OnInput (Some all) P = P all
+
+-- the law that each input has one outcome
+abbrev pub OneOutcome : Type 0
+OneOutcome = (bytes : List ℕ) → ((o : Outcome) × IsOutcome bytes o) × ((o p : Outcome) → IsOutcome bytes o → IsOutcome bytes p → o ≡ p)

@@ -1,0 +1,105 @@
+//! The collections that the kept takings make, by name.
+ghost use Rattle.std.specs.Prelude.{◌≡◌, OnOk, IfOk};
+ghost use Rattle.std.specs.Map.{remove_entry};
+ghost use Rattle.std.specs.BTreeMap.{insert_entry, is_at};
+ghost use Rattle.restore_base.specs.Base.{put_document, document_taken, put_in, ns_cmp, documents_at, put_taking, collections_of};
+ghost use Rattle.restore_base.specs.Kept.{taking_of, takings_in};
+ghost use Rattle.restore_base.specs.Gathered.{documents_in, named, gathered_in, IsInOrder};
+
+use crate::collections::Kept;
+use crate::id::id_key;
+use std::alloc::{AllocError, Global};
+use std::collections::BTreeMap;
+
+/// The documents of a collection, by type byte and bytes of their `_id`.
+pub type Documents<'a> = BTreeMap<Vec<u8>, &'a [u8]>;
+
+/// The documents of each namespace, by database and collection.
+pub type Gathered<'a> = BTreeMap<(&'a str, &'a str), Documents<'a>>;
+
+// The document in its place, over one with the same `_id`.
+fn put_document<'a>(
+    alloc: Global,
+    documents: &mut Documents<'a>,
+    bytes: &'a [u8],
+) -> Result<(), AllocError>
+    ensures { OnOk result (documents_in documents.new ≡ put_document (document_taken bytes.now) (documents_in documents.old)) }
+{
+    let key = id_key(alloc, bytes)?;
+    match documents.insert(key, bytes) {
+        Ok(_) => Ok(()),
+        Err(_) => Err(AllocError),
+    }
+}
+
+// What a taking makes of its collection.
+fn put_in<'a>(
+    alloc: Global,
+    documents: &mut Documents<'a>,
+    kept: &'a Kept,
+) -> Result<(), AllocError>
+    ensures { OnOk result (documents_in documents.new ≡ put_in (taking_of kept.now) (documents_in documents.old)) }
+{
+    match kept {
+        Kept::Doc(_, bytes) => put_document(alloc, documents, bytes.as_slice()),
+        Kept::Meta(_) => Ok(()),
+        Kept::End(_) => Ok(()),
+    }
+}
+
+// Takes the documents of a namespace out: none where it isn't there.
+fn take_out<'a>(
+    alloc: Global,
+    gathered: &mut Gathered<'a>,
+    name: &(&'a str, &'a str),
+) -> Documents<'a>
+    requires { IsInOrder gathered.old }
+    ensures documents { documents_in result ≡ documents_at (named name.now) (gathered_in gathered.old) }
+    ensures others { gathered_in gathered.new ≡ remove_entry (is_at (ns_cmp (named name.now))) (gathered_in gathered.old) }
+{
+    match gathered.remove(name) {
+        Some(documents) => documents,
+        None => BTreeMap::new(alloc),
+    }
+}
+
+fn put_back<'a>(
+    gathered: &mut Gathered<'a>,
+    name: (&'a str, &'a str),
+    documents: Documents<'a>,
+) -> Result<(), AllocError>
+    ensures ok { OnOk result (gathered_in gathered.new ≡ insert_entry ns_cmp (gathered_in gathered.old) (named name.entry) (documents_in documents.entry)) }
+    ensures order { IsInOrder gathered.new }
+{
+    match gathered.insert(name, documents) {
+        Ok(_) => Ok(()),
+        Err(_) => Err(AllocError),
+    }
+}
+
+fn put_kept<'a>(
+    alloc: Global,
+    gathered: &mut Gathered<'a>,
+    kept: &'a Kept,
+) -> Result<(), AllocError>
+    requires { IsInOrder gathered.old }
+    ensures ok { OnOk result (gathered_in gathered.new ≡ put_taking (gathered_in gathered.old) (taking_of kept.now)) }
+    ensures order { OnOk result (IsInOrder gathered.new) }
+{
+    let ns = kept.ns();
+    let name = (ns.db.as_str(), ns.coll.as_str());
+    let mut documents = take_out(alloc, gathered, &name);
+    put_in(alloc, &mut documents, kept)?;
+    put_back(gathered, name, documents)
+}
+
+/// The collections that these takings make.
+pub fn gather<'a>(alloc: Global, takings: &'a [Kept]) -> Result<Gathered<'a>, AllocError>
+    ensures { IfOk result (λ g. gathered_in g ≡ collections_of (takings_in takings.now)) }
+{
+    let mut gathered = BTreeMap::new(alloc);
+    for kept in takings {
+        put_kept(alloc, &mut gathered, kept)?;
+    }
+    Ok(gathered)
+}

@@ -1,0 +1,12 @@
+//! What a restore makes of an archive: its collections, and their listing.
+#![tactic(auto)]
+
+mod base;
+mod collections;
+mod id;
+mod listing;
+mod names;
+mod reading;
+
+pub use collections::{Collections, Stop};
+pub use reading::{RestoreFault, one_outcome, restore};

@@ -1,0 +1,109 @@
+//! The listing of the collections that a restore has taken.
+ghost use Rattle.std.specs.Prelude.{◌≡◌, ◌≤◌, OnOk, OnErr, IsErrOf, map};
+ghost use Rattle.std.specs.List.{flat_map};
+ghost use Rattle.std.specs.Io.KnownBytes.{Appends};
+ghost use Rattle.tool_io.specs.Causes.{Rose, AppendsFront};
+ghost use Rattle.state_listing.specs.Listing.{document_line, collection_text, listing};
+ghost use Rattle.restore_base.specs.Base.{document_taken, collection, base};
+ghost use Rattle.restore_base.specs.Gathered.{documents_in, gathered_in, named};
+ghost use Rattle.restore_base.specs.Taken.{takings_of};
+
+use crate::base::{Documents, Gathered, gather};
+use crate::collections::Collections;
+use crate::id::document;
+use json_text::Fields;
+use state_listing::{ListForm, Tree, write_document, write_head};
+use std::alloc::Global;
+use tool_io::{Fault, Sink};
+
+fn list_document<K: Sink>(
+    alloc: Global,
+    bytes: &[u8],
+    form: ListForm,
+    sink: &mut K,
+) -> Result<(), Fault>
+    ensures ok { OnOk result (Appends (K.written sink.old) (K.written sink.new) (document_line form (document_taken bytes.now))) }
+    ensures err { OnErr result (AppendsFront (K.written sink.old) (K.written sink.new) (document_line form (document_taken bytes.now))) }
+    ensures later { K.faults sink.old ≤ K.faults sink.new }
+    ensures cause { IsErrOf result Fault.Failed → Rose (K.faults sink.old) (K.faults sink.new) }
+{
+    match document(alloc, bytes) {
+        Ok(doc) => write_document(alloc, &doc, form, sink),
+        Err(_) => Err(Fault::NoMemory),
+    }
+}
+
+fn list_documents<K: Sink>(
+    alloc: Global,
+    documents: &Documents<'_>,
+    form: ListForm,
+    sink: &mut K,
+) -> Result<(), Fault>
+    ensures ok { OnOk result (Appends (K.written sink.old) (K.written sink.new) (flat_map (λ e. document_line form e.1) (documents_in documents.now))) }
+    ensures err { OnErr result (AppendsFront (K.written sink.old) (K.written sink.new) (flat_map (λ e. document_line form e.1) (documents_in documents.now))) }
+    ensures later { K.faults sink.old ≤ K.faults sink.new }
+    ensures cause { IsErrOf result Fault.Failed → Rose (K.faults sink.old) (K.faults sink.new) }
+{
+    'documents: for (_, bytes) in documents {
+        match list_document(alloc, bytes, form, sink) {
+            Ok(()) => {}
+            Err(fault) => return Err(fault),
+        }
+    }
+    Ok(())
+}
+
+fn list_collection<K: Sink>(
+    alloc: Global,
+    name: &(&str, &str),
+    documents: &Documents<'_>,
+    form: ListForm,
+    sink: &mut K,
+) -> Result<(), Fault>
+    ensures ok { OnOk result (Appends (K.written sink.old) (K.written sink.new) (collection_text form (collection (named name.now, documents_in documents.now)))) }
+    ensures err { OnErr result (AppendsFront (K.written sink.old) (K.written sink.new) (collection_text form (collection (named name.now, documents_in documents.now)))) }
+    ensures later { K.faults sink.old ≤ K.faults sink.new }
+    ensures cause { IsErrOf result Fault.Failed → Rose (K.faults sink.old) (K.faults sink.new) }
+{
+    let (db, coll) = *name;
+    let options = Tree::Object(Fields::new(alloc));
+    match write_head(alloc, db, coll, documents.len(), &options, sink) {
+        Ok(()) => list_documents(alloc, documents, form, sink),
+        Err(fault) => Err(fault),
+    }
+}
+
+fn list_collections<K: Sink>(
+    alloc: Global,
+    gathered: &Gathered<'_>,
+    form: ListForm,
+    sink: &mut K,
+) -> Result<(), Fault>
+    ensures ok { OnOk result (Appends (K.written sink.old) (K.written sink.new) (listing form (map collection (gathered_in gathered.now)))) }
+    ensures err { OnErr result (AppendsFront (K.written sink.old) (K.written sink.new) (listing form (map collection (gathered_in gathered.now)))) }
+    ensures later { K.faults sink.old ≤ K.faults sink.new }
+    ensures cause { IsErrOf result Fault.Failed → Rose (K.faults sink.old) (K.faults sink.new) }
+{
+    'collections: for (name, documents) in gathered {
+        match list_collection(alloc, name, documents, form, sink) {
+            Ok(()) => {}
+            Err(fault) => return Err(fault),
+        }
+    }
+    Ok(())
+}
+
+impl Collections {
+    /// Writes the listing of the collections, a piece for each line or two.
+    pub fn list<K: Sink>(&self, alloc: Global, form: ListForm, sink: &mut K) -> Result<(), Fault>
+        ensures ok { OnOk result (Appends (K.written sink.old) (K.written sink.new) (listing form (base (takings_of self.now)))) }
+        ensures err { OnErr result (AppendsFront (K.written sink.old) (K.written sink.new) (listing form (base (takings_of self.now)))) }
+        ensures later { K.faults sink.old ≤ K.faults sink.new }
+        ensures cause { IsErrOf result Fault.Failed → Rose (K.faults sink.old) (K.faults sink.new) }
+    {
+        match gather(alloc, self.takings()) {
+            Ok(gathered) => list_collections(alloc, &gathered, form, sink),
+            Err(_) => Err(Fault::NoMemory),
+        }
+    }
+}

@@ -1,0 +1,2 @@
+mod Sorted
+mod Ordered

@@ -1,0 +1,89 @@
+-- The number of each status, and its line on the report.
+use Rattle.std.specs.Prelude.{ℕ, List, [], ◌∷◌, ◌++◌, reverse, codes}
+use Rattle.std.specs.Fmt.{decimal}
+use Rattle.std.specs.Int.{w64, to_be_bytes}
+use Rattle.hex.specs.Hex.{encode_lower}
+use Rattle.bson_value.specs.declared.namespace.NsName.{NsName}
+use Rattle.bson_check.specs.declared.fault.BsonKind.{BsonKind}
+use Rattle.bson_check.specs.declared.fault.BsonKind.TheVariants as kinds
+use Rattle.archive_format.specs.declared.fault.DemuxFault.{DemuxFault}
+use Rattle.archive_format.specs.declared.fault.DemuxFault.TheVariants as faults
+use Rattle.state_listing.specs.Listing.{name_text}
+use Rattle.tools_cli.specs.declared.status.ArchiveFault.{ArchiveFault}
+use Rattle.tools_cli.specs.declared.status.ArchiveFault.TheVariants as refusals
+use Rattle.tools_cli.specs.declared.status.Status.{Status}
+use Rattle.tools_cli.specs.declared.status.Status.TheVariants as is
+
+abbrev pub code_of : Status → ℕ
+code_of is.Done = 0
+code_of (is.Usage at) = 1
+code_of (is.BadArchive f) = 3
+code_of is.ReadFault = 9
+code_of is.WriteFault = 10
+code_of is.NoMemory = 11
+code_of is.Unbuilt = 12
+
+abbrev pub line : List ℕ → List ℕ
+line text = text ++ 10 ∷ []
+
+abbrev pub numbered : List ℕ → ℕ → List ℕ
+numbered text n = text ++ decimal n
+
+-- the number of a kind of fault
+abbrev pub kind_number : BsonKind → ℕ
+kind_number kinds.Short = 1
+kind_number kinds.Length = 2
+kind_number kinds.Tag = 3
+kind_number kinds.Text = 4
+kind_number kinds.Repeat = 5
+kind_number kinds.Deep = 6
+kind_number kinds.Bool = 7
+kind_number kinds.TooLong = 8
+
+-- database and collection, as a JSON string
+abbrev pub quoted_name : NsName → List ℕ
+quoted_name n = name_text n.db n.coll
+
+-- 16 hexadecimal digits
+abbrev pub sum_text : ℕ → List ℕ
+sum_text n = encode_lower (to_be_bytes w64 n)
+
+-- a document that isn't one, with the number of its fault's kind
+abbrev pub bson_text : ℕ → ℕ → List ℕ
+bson_text at kind = numbered (numbered (codes "bad document at ") at ++ codes " kind ") kind
+
+-- what stands behind `bad archive: `
+abbrev pub format_text : DemuxFault → List ℕ
+format_text faults.BadMagic = codes "bad magic"
+format_text (faults.Truncated at) = numbered (codes "truncated at ") at
+format_text (faults.BadBson at kind) = bson_text at (kind_number kind)
+format_text (faults.BadPrelude at) = numbered (codes "bad prelude at ") at
+format_text (faults.BadHeader at) = numbered (codes "bad header at ") at
+format_text (faults.AfterEnd ns at) = numbered (codes "after end of " ++ quoted_name ns ++ codes " at ") at
+format_text (faults.DocsInEnd at) = numbered (codes "document in end at ") at
+format_text (faults.Crc ns said found) = codes "crc of " ++ quoted_name ns ++ codes " said " ++ sum_text said ++ codes " found " ++ sum_text found
+format_text (faults.NotEnded ns) = quoted_name ns ++ codes " not ended"
+format_text faults.TooLong = codes "too long"
+format_text _ = []
+
+abbrev pub refusal_text : ArchiveFault → List ℕ
+refusal_text (refusals.Format f) = format_text f
+refusal_text (refusals.NoId ns) = codes "no _id in " ++ quoted_name ns
+
+abbrev pub usage_line : ℕ → List ℕ
+usage_line at = line (numbered (codes "usage: word ") at)
+
+abbrev pub refusal_line : ArchiveFault → List ℕ
+refusal_line f = line (codes "bad archive: " ++ refusal_text f)
+
+abbrev pub no_memory_line : List ℕ
+no_memory_line = codes "no memory\n"
+
+abbrev pub line_of : Status → List ℕ
+line_of is.Done = []
+line_of (is.Usage at) = usage_line at
+line_of (is.BadArchive f) = refusal_line f
+line_of is.ReadFault = codes "read fault\n"
+line_of is.WriteFault = codes "write fault\n"
+line_of is.NoMemory = no_memory_line
+line_of is.Unbuilt = codes "unbuilt\n"
