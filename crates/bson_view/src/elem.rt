@@ -1,7 +1,8 @@
 //! An element of a document or an array.
 ghost use Rattle.std.specs.Prelude.{◌≡◌, Some, IfSome, IsTrue, option_map};
 ghost use Rattle.bson_value.specs.declared.value.Value.{out-Value};
-ghost use Rattle.bson_view.specs.Meaning.{is_value, AreValue};
+ghost use Rattle.bson_value.specs.Spelling.{spelled, tag_of};
+ghost use Rattle.bson_view.specs.Meaning.{is_value, AreBytes, AreValue, IsLeaf};
 
 use crate::elements::Elements;
 use bson_value::CText;
@@ -16,10 +17,25 @@ pub struct Elem<'a> {
     ghost spelled: { IsTrue (is_value tag value.now) },
 }
 
+// Does nothing. Its caller learns that a byte has eight bits.
+fn are_bytes(bytes: &[u8])
+    ensures { AreBytes bytes.now }
+{}
+
 impl<'a> Elem<'a> {
     ghost use Rattle.bson_view.specs.Views.{elem_part, elem_value, parts_left};
     ghost use Rattle.bson_view.specs.Parts.{AreElementsOf, elements_in};
     ghost use Rattle.bson_view.specs.Paths.{value_under, value_along, part_under, part_along};
+
+    /// Does nothing. Its caller learns that the bytes are those of the value, and the only ones where it
+    /// holds no document and no array.
+    pub fn spells(&self)
+        ensures spelled { AreValue self.now.tag self.now.value.now (elem_value self.now) }
+        ensures tag { self.now.tag ≡ tag_of (elem_value self.now) }
+        ensures leaf { IsLeaf (out-Value (elem_value self.now)) → self.now.value.now ≡ spelled (elem_value self.now) }
+    {
+        are_bytes(self.value);
+    }
 
     /// The elements of a document or an array, in order. Any other value has none, also a code with a
     /// scope.

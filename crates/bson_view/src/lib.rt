@@ -9,5 +9,5 @@ mod view;
 pub use bson_check::BsonFault;
 pub use elem::Elem;
 pub use elements::Elements;
-pub use laws::{one_document, one_value};
+pub use laws::{leaf_spelled_once, one_document, one_value};
 pub use view::View;
