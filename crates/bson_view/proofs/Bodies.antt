@@ -16,6 +16,7 @@ use Rattle.bson_view.specs.Meaning.{is_document, document_in, AreValue, is_value
 use Rattle.bson_view.specs.Parts.{Part, part_value, values_of, fields_of, parts_in, parts_of, body_of, elements_in, AreElementsOf, AreElements, HasElements, SpellsValue}
 use Rattle.bson_view.specs.Paths.{value_under, part_named, part_at_index, part_under}
 use Rattle.bson_view.specs.Views.{elem_part, elem_value}
+use Rattle.bson_view.specs.HeldWalk.{fields_in, items_in}
 use Rattle.bson_view.proofs.Meanings.{checked_spells, checked_value}
 use Rattle.bson_view.proofs.Parting.{fields_items, fields_are, items_are, bytes_are}
 
@@ -199,7 +200,7 @@ pub few_parts : (b : List ℕ) → length (parts_of b) ≤ length b
 unfolding parts_of
 few_parts b = parts_fit (length b) b
 
-nth_none : {A : Type 0} (ps : List A) (n : ℕ) → length ps ≤ n → nth ps n ≡ None
+pub nth_none : {A : Type 0} (ps : List A) (n : ℕ) → length ps ≤ n → nth ps n ≡ None
 nth_none [] n le = refl
 nth_none (p ∷ ps) zero le = absurd (omega (arith, le))
 nth_none (p ∷ ps) (suc n) le = nth_none ps n (omega (arith, le))
@@ -216,3 +217,39 @@ nothing = ∣ (0, [], refl) ∣₁
 pub some_checked : (r : Option Elem) → IfSome r (λ e. AreValue e.tag e.value.now (elem_value e))
 some_checked None = tt
 some_checked (Some e) = checked_value e.tag e.value.now e.spelled
+
+-- ---- the elements of a document alone, and of an array alone
+
+some_fields : (b : List ℕ) (ps : List Part) (f : Value-F Value) → type_byte f ≡ 3 → AreElementsOf f b ps → Some (fields_of ps) ≡ fields_in f
+some_fields b ps (Value-F.Object fs) k s = ap (λ gs. Some gs) s.1
+some_fields b ps _ k s = absurd (omega (arith, k))
+
+no_fields : (f : Value-F Value) → (type_byte f ≡ 3 → ⊥) → None ≡ fields_in f
+no_fields (Value-F.Object fs) k = absurd (k refl)
+no_fields _ k = refl
+
+some_items : (b : List ℕ) (ps : List Part) (f : Value-F Value) → type_byte f ≡ 4 → AreElementsOf f b ps → Some (values_of ps) ≡ items_in f
+some_items b ps (Value-F.Array vs) k s = ap (λ ws. Some ws) s.1
+some_items b ps _ k s = absurd (omega (arith, k))
+
+no_items : (f : Value-F Value) → (type_byte f ≡ 4 → ⊥) → None ≡ items_in f
+no_items (Value-F.Array vs) k = absurd (k refl)
+no_items _ k = refl
+
+module _ (e : Elem) where
+  pub elem_fields : (ps : List Part) → e.tag ≡ 3 → AreElementsOf (out-Value (elem_value e)) e.value.now ps → Some (fields_of ps) ≡ fields_in (out-Value (elem_value e))
+  elem_fields ps k s = some_fields e.value.now ps (out-Value (elem_value e)) (sym (checked_value e.tag e.value.now e.spelled).kind ∙ k) s
+
+  pub elem_no_fields : (e.tag ≡ 3 → ⊥) → None ≡ fields_in (out-Value (elem_value e))
+  elem_no_fields k = no_fields (out-Value (elem_value e)) (λ h. k ((checked_value e.tag e.value.now e.spelled).kind ∙ h))
+
+  pub elem_items : (ps : List Part) → e.tag ≡ 4 → AreElementsOf (out-Value (elem_value e)) e.value.now ps → Some (values_of ps) ≡ items_in (out-Value (elem_value e))
+  elem_items ps k s = some_items e.value.now ps (out-Value (elem_value e)) (sym (checked_value e.tag e.value.now e.spelled).kind ∙ k) s
+
+  pub elem_no_items : (e.tag ≡ 4 → ⊥) → None ≡ items_in (out-Value (elem_value e))
+  elem_no_items k = no_items (out-Value (elem_value e)) (λ h. k ((checked_value e.tag e.value.now e.spelled).kind ∙ h))
+
+-- an index that no value has
+pub no_value : (vs : List Value) (o : Option ℕ) (m : ℕ) → ((n : ℕ) → o ≡ Some n → m ≤ n) → length vs ≤ m → at_index vs o ≡ None
+no_value vs None m h le = refl
+no_value vs (Some n) m h le = nth_none vs n (omega (arith, h n refl, le))

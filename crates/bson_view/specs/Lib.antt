@@ -2,3 +2,5 @@ pub mod Meaning
 pub mod Parts
 pub mod Paths
 pub mod Views
+pub mod Held
+pub mod HeldWalk

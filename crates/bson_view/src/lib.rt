@@ -3,11 +3,15 @@
 
 mod elem;
 mod elements;
+mod held;
 mod laws;
 mod view;
+mod walk;
 
 pub use bson_check::BsonFault;
 pub use elem::Elem;
 pub use elements::Elements;
+pub use held::{Held, HeldValue};
 pub use laws::{leaf_spelled_once, one_document, one_value};
 pub use view::View;
+pub use walk::{HeldField, HeldFields, HeldItems};
