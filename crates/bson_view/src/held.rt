@@ -5,6 +5,7 @@ ghost use Rattle.containers.specs.Entries.{lookup};
 ghost use Rattle.bson_value.specs.declared.value.Value.{out-Value};
 ghost use Rattle.bson_value.specs.Digits.{index_of as index_of_name};
 ghost use Rattle.bson_value.specs.Place.{at_index};
+ghost use Rattle.bson_value.specs.Spelling.{tag_of};
 ghost use Rattle.bson_view.specs.Views.{elem_value};
 ghost use Rattle.bson_view.specs.HeldWalk.{fields_left, items_left, fields_in, items_in};
 ghost use Rattle.bson_view.specs.Paths.{value_under, value_along, value_at};
@@ -12,6 +13,7 @@ ghost use Rattle.bson_view.specs.Paths.{value_under, value_along, value_at};
 use crate::elem::Elem;
 use crate::view::View;
 use crate::walk::{HeldFields, HeldItems};
+use bson_core::type_of;
 use bson_value::{CText, Doc, List, Value};
 use doc_path::index_of;
 
@@ -130,6 +132,19 @@ fn items_built(value: &Value) -> Option<HeldItems<'_>>
 
 impl<'a> HeldValue<'a> {
     ghost use Rattle.bson_view.specs.Held.{held_value};
+
+    /// The byte of the value's type.
+    pub fn tag(&self) -> u8
+        ensures { result ≡ tag_of (held_value self.now) }
+    {
+        match *self {
+            HeldValue::Spelled(elem) => {
+                elem.spells();
+                elem.tag
+            }
+            HeldValue::Built(value) => type_of(value),
+        }
+    }
 
     /// The value under the name: a field of a document, or the element of an array whose index it
     /// writes.

@@ -15,3 +15,6 @@ pub use held::{Held, HeldValue};
 pub use laws::{leaf_spelled_once, one_document, one_value};
 pub use view::View;
 pub use walk::{HeldField, HeldFields, HeldItems};
+
+#[cfg(test)]
+mod tests;
