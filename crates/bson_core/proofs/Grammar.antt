@@ -65,14 +65,14 @@ index_no_zero k lt = no_zero (decimal k) (decimal_is_IsNumeral k lt).0.1
 
 -- ---- one level of a value
 
-spelling_out : (v : Value) → spelling v ≡ spelling_step (map-Value Value Typed spelling (out-Value v))
+pub spelling_out : (v : Value) → spelling v ≡ spelling_step (map-Value Value Typed spelling (out-Value v))
 spelling_out v = ap (fold-Value Typed spelling_step) (sym (roll-out-Value v)) ∙ fold-roll-Value Typed spelling_step (out-Value v)
 
 tag_at : (x : Value-F Value) → type_byte x ≡ (spelling_step (map-Value Value Typed spelling x)).0
 tag_at (Value-F.Object fs) = refl
 tag_at _ = refl
 
-tag_is : (v : Value) → type_byte (out-Value v) ≡ tag_of v
+pub tag_is : (v : Value) → type_byte (out-Value v) ≡ tag_of v
 tag_is v = tag_at (out-Value v) ∙ sym (ap (λ (t : Typed). t.0) (spelling_out v))
 
 module _ (D : List ℕ → List (List ℕ × Value) → Type 0) (A : List ℕ → List Value → Type 0) (n : ℕ)

@@ -12,7 +12,7 @@ pub use bson_check::{
 pub use bson_value::{Bytes, CText, Doc, Fields, List, NsName, Text, Ts, Value, same_up_to_order};
 pub use laws::spelling_spells;
 pub use reading::decode;
-pub use writing::encode;
+pub use writing::{encode, type_of};
 
 #[cfg(test)]
 mod tests;

@@ -64,7 +64,8 @@ fn put_binary(out: &mut Vec<u8>, subtype: u8, bytes: &[u8]) -> Result<(), AllocE
     Ok(())
 }
 
-fn type_of(value: &Value) -> u8
+/// The byte of the value's type.
+pub fn type_of(value: &Value) -> u8
     ensures { result ≡ tag_of value.now }
 {
     match value {

@@ -4,3 +4,4 @@ pub mod Meanings
 pub mod Parting
 pub mod Stepping
 pub mod Bodies
+pub mod Leaves

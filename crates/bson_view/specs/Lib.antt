@@ -1,3 +1,6 @@
 pub mod Meaning
 pub mod Parts
+pub mod Paths
 pub mod Views
+pub mod Held
+pub mod HeldWalk

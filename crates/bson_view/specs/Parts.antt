@@ -1,9 +1,10 @@
 -- The elements of a document or an array as parts of its bytes.
-use Rattle.std.specs.Prelude.{◌≡◌, ℕ, zero, suc, ◌-◌, List, [], ◌∷◌, ◌++◌, length, take, map}
+use Rattle.std.specs.Prelude.{◌≡◌, ℕ, zero, suc, ◌-◌, ◌≤◌, List, [], ◌∷◌, ◌++◌, length, take, drop, map}
 use Rattle.std.specs.List.{flat_map}
 use Rattle.bson_value.specs.declared.value.Value.{Value, out-Value}
+use Rattle.bson_value.specs.declared.value.Value.TheOpen.{Value-F}
 use Rattle.bson_check.specs.Passing.{upto_zero, past_zero, jump}
-use Rattle.bson_check.specs.Spells.{AreBytesOf, AreItems, IsDocument, IsArray}
+use Rattle.bson_check.specs.Spells.{IsFrame, AreBytesOf, AreItems, IsDocument, IsArray}
 use Rattle.bson_view.specs.Meaning.{value_in}
 
 -- an element: its name, the byte of its type, and the bytes of its value
@@ -48,6 +49,20 @@ parts_in (suc turns) (tag ∷ bytes) = first_part tag bytes ∷ parts_in turns (
 unfoldable pub parts_of : List ℕ → List Part
 parts_of bytes = parts_in (length bytes) bytes
 
+-- what stands between the length and the last zero
+abbrev pub body_of : List ℕ → List ℕ
+body_of bytes = take (length bytes - 5) (drop 4 bytes)
+
+-- the elements of a document or an array, which these bytes spell
+unfoldable pub elements_in : List ℕ → List Part
+elements_in bytes = parts_of (body_of bytes)
+
+-- the elements in the bytes of a value: the fields of a document, or the values of an array, whose bytes, one after the other, are all but the length and the last zero. Any other value has none, also a code with a scope
+abbrev pub AreElementsOf : Value-F Value → List ℕ → List Part → Type 0
+AreElementsOf (Value-F.Object fs) bytes ps = IsFrame bytes (bytes_of ps) × (fields_of ps ≡ fs)
+AreElementsOf (Value-F.Array vs) bytes ps = IsFrame bytes (bytes_of ps) × (values_of ps ≡ vs)
+AreElementsOf _ bytes ps = ps ≡ []
+
 -- these bytes are the value, which has at most so many levels in it
 abbrev pub SpellsValue : ℕ → List ℕ → Value → Type 0
 SpellsValue n bytes v = AreBytesOf (IsDocument n) (IsArray n) bytes (out-Value v)
@@ -55,3 +70,7 @@ SpellsValue n bytes v = AreBytesOf (IsDocument n) (IsArray n) bytes (out-Value v
 -- the bytes are elements, one after the other
 abbrev pub AreElements : List ℕ → Type 0
 AreElements bytes = (n : ℕ) × (vs : List Value) × AreItems (SpellsValue n) bytes vs
+
+-- elements stand between a length and a zero
+abbrev pub HasElements : List ℕ → Type 0
+HasElements bytes = (5 ≤ length bytes) × AreElements (body_of bytes)

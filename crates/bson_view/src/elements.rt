@@ -1,12 +1,12 @@
 //! The elements of a document or an array, one after the other.
-ghost use Rattle.std.specs.Prelude.{◌≡◌, IfSome, option_map};
-ghost use Rattle.containers.specs.Entries.{lookup};
+ghost use Rattle.std.specs.Prelude.{◌≡◌, [], IfSome, option_map};
 ghost use Rattle.bson_view.specs.Meaning.{AreValue};
-ghost use Rattle.bson_view.specs.Parts.{AreElements, parts_of, fields_of};
+ghost use Rattle.bson_view.specs.Parts.{AreElements, HasElements, elements_in};
 
 use crate::elem::Elem;
 use bson_check::parts::zero_place;
 use bson_check::passing::after;
+use doc_path::index_of;
 
 /// The elements of a document or an array that are still to come, in order.
 #[derive(Clone, Copy, Debug)]
@@ -16,18 +16,30 @@ pub struct Elements<'a> {
 }
 
 impl<'a> Elements<'a> {
-    ghost use Rattle.bson_view.specs.Views.{elem_value, parts_left};
+    ghost use Rattle.bson_view.specs.Views.{elem_part, elem_value, parts_left};
+    ghost use Rattle.bson_view.specs.Paths.{part_named, part_at_index};
+    ghost use Rattle.bson_value.specs.Digits.{index_of};
 
-    pub(crate) fn of_body(body: &'a [u8]) -> Elements<'a>
-        requires { AreElements body.now }
-        ensures { parts_left result ≡ parts_of body.now }
+    // The elements of a document or an array.
+    pub(crate) fn of_frame(bytes: &'a [u8]) -> Elements<'a>
+        requires { HasElements bytes.now }
+        ensures { parts_left result ≡ elements_in bytes.now }
     {
-        Elements { rest: body }
+        Elements {
+            rest: &bytes[4..bytes.len() - 1],
+        }
     }
 
-    /// The next element of this name.
+    // No elements, for as long as these bytes are lent.
+    pub(crate) fn none(bytes: &'a [u8]) -> Elements<'a>
+        ensures { parts_left result ≡ [] }
+    {
+        Elements { rest: &bytes[..0] }
+    }
+
+    // The first element of this name.
     pub(crate) fn named(self, name: &str) -> Option<Elem<'a>>
-        ensures value { option_map elem_value result ≡ lookup name.now (fields_of (parts_left self.entry)) }
+        ensures part { option_map elem_part result ≡ part_named name.now (parts_left self.entry) }
         ensures name { IfSome result (λ e. e.name.now ≡ name.now) }
         ensures spelled { IfSome result (λ e. AreValue e.tag e.value.now (elem_value e)) }
     {
@@ -37,6 +49,17 @@ impl<'a> Elements<'a> {
             }
         }
         None
+    }
+
+    // The element whose index the name writes.
+    pub(crate) fn item(mut self, name: &str) -> Option<Elem<'a>>
+        ensures part { option_map elem_part result ≡ part_at_index (parts_left self.entry) (index_of name.now) }
+        ensures spelled { IfSome result (λ e. AreValue e.tag e.value.now (elem_value e)) }
+    {
+        match index_of(name) {
+            Some(index) => self.nth(index),
+            None => None,
+        }
     }
 }
 

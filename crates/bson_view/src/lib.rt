@@ -3,11 +3,18 @@
 
 mod elem;
 mod elements;
+mod held;
 mod laws;
 mod view;
+mod walk;
 
 pub use bson_check::BsonFault;
 pub use elem::Elem;
 pub use elements::Elements;
-pub use laws::{one_document, one_value};
+pub use held::{Held, HeldValue};
+pub use laws::{leaf_spelled_once, one_document, one_value};
 pub use view::View;
+pub use walk::{HeldField, HeldFields, HeldItems};
+
+#[cfg(test)]
+mod tests;

@@ -1,0 +1,83 @@
+-- A value that holds no document and no array has one spelling.
+use Rattle.std.proofs.Common.{◌≡◌, ℕ, zero, suc, ◌+◌, ◌%◌, ◌<◌, ◌^◌, List, [], ◌∷◌, ◌++◌, length, slice_index, refl, sym, ap, subst, ◌∙◌, append_assoc, arith}
+use Rattle.std.specs.Prelude.{ℤ}
+use Rattle.std.specs.Int.{w32, w64, from_le_bytes, to_le_bytes, cast_signed, cast_unsigned}
+use Rattle.std.proofs.lemmas.Int.{of_z-to_z}
+use Rattle.std.proofs.lemmas.Nat.{le_bytes_4, le_bytes_8}
+use Rattle.std.proofs.lemmas.List.{get_or-append-add}
+use Rattle.bson_value.specs.Spelling.{Typed, count_bytes, text_bytes, spelling, spelling_step, spelled}
+use Rattle.bson_value.specs.declared.value.Value.{Value, out-Value, map-Value}
+use Rattle.bson_value.specs.declared.value.Value.TheOpen.{Value-F}
+use Rattle.bson_check.specs.Spells.{IsCount, IsSigned, IsString, AreBytesOf, IsDocument, IsArray}
+use Rattle.bson_core.proofs.Grammar.{spelling_out}
+use Rattle.bson_view.specs.Meaning.{AreBytes, AreValue, IsLeaf, LeafSpelledOnce}
+
+back_bytes : (a b : List ℕ) → AreBytes (a ++ b) → AreBytes b
+back_bytes a b h i = omega (arith, h (length a + i), get_or-append-add a b i 0)
+
+front_bytes : (a b : List ℕ) → AreBytes (a ++ b) → AreBytes a
+front_bytes [] b h i = omega arith
+front_bytes (x ∷ a) b h zero = h 0
+front_bytes (x ∷ a) b h (suc i) = front_bytes a b (λ j. h (suc j)) i
+
+word_back : (c : List ℕ) (n : ℕ) → AreBytes c → IsCount c n → c ≡ to_le_bytes w32 n
+word_back c n h k = sym (le_bytes_4 c n k.four h (sym k.value))
+
+word_small : (c : List ℕ) (n : ℕ) → AreBytes c → IsCount c n → n < 2 ^ 32
+word_small c n h k = omega (arith, k.value, h 0, h 1, h 2, h 3)
+
+count_back : (c : List ℕ) (n : ℕ) → AreBytes c → IsCount c n → c ≡ count_bytes n
+count_back c n h k =
+    let small : n % (2 ^ 32) ≡ n = omega (arith, word_small c n h k) in
+    word_back c n h k ∙ ap (to_le_bytes w32) (sym small)
+
+string_back : (b t : List ℕ) → AreBytes b → IsString b t → b ≡ text_bytes t
+string_back b t h s =
+    let whole : b ≡ s.0 ++ (t ++ 0 ∷ []) = s.3 ∙ append_assoc s.0 t (0 ∷ []) in
+    let count : AreBytes s.0 = front_bytes s.0 (t ++ 0 ∷ []) (subst AreBytes whole h) in
+    s.3 ∙ ap (λ (c : List ℕ). c ++ t ++ 0 ∷ []) (count_back s.0 (length t + 1) count s.1)
+
+int_back : (b : List ℕ) (z : ℤ) → AreBytes b → IsSigned w32 b z → b ≡ to_le_bytes w32 (cast_unsigned w32 z)
+int_back b z h s =
+    let small : from_le_bytes w32 b < 2 ^ 32 = omega (arith, h 0, h 1, h 2, h 3) in
+    sym (le_bytes_4 b (from_le_bytes w32 b) s.count h refl) ∙ ap (to_le_bytes w32) (sym (of_z-to_z w32 (from_le_bytes w32 b) small) ∙ ap (cast_unsigned w32) s.value)
+
+long_back : (b : List ℕ) (z : ℤ) → AreBytes b → IsSigned w64 b z → b ≡ to_le_bytes w64 (cast_unsigned w64 z)
+long_back b z h s =
+    let small : from_le_bytes w64 b < 2 ^ 64 = omega (arith, h 0, h 1, h 2, h 3, h 4, h 5, h 6, h 7) in
+    sym (le_bytes_8 b (from_le_bytes w64 b) s.count h refl) ∙ ap (to_le_bytes w64) (sym (of_z-to_z w64 (from_le_bytes w64 b) small) ∙ ap (cast_unsigned w64) s.value)
+
+-- the spelling of one level
+abbrev bytes_at : Value-F Value → List ℕ
+bytes_at x = (spelling_step (map-Value Value Typed spelling x)).1
+
+module _ (D : List ℕ → List (List ℕ × Value) → Type 0) (A : List ℕ → List Value → Type 0) where
+  leaf_back : (b : List ℕ) (x : Value-F Value) → AreBytes b → AreBytesOf D A b x → IsLeaf x → b ≡ bytes_at x
+  leaf_back b (Value-F.Double d) h s l = s.1
+  leaf_back b (Value-F.Str t) h s l = string_back b t h s
+  leaf_back b (Value-F.Object fs) h s l = absurd l
+  leaf_back b (Value-F.Array vs) h s l = absurd l
+  leaf_back b (Value-F.Binary k d) h s l =
+      s.2 ∙ ap (λ (c : List ℕ). c ++ k ∷ d) (count_back s.0 (length d) (front_bytes s.0 (k ∷ d) (subst AreBytes s.2 h)) s.1)
+  leaf_back b Value-F.Undefined h s l = s
+  leaf_back b (Value-F.Oid d) h s l = s.1
+  leaf_back b (Value-F.Bool v) h s l = s
+  leaf_back b (Value-F.Date z) h s l = long_back b z h s
+  leaf_back b Value-F.Null h s l = s
+  leaf_back b (Value-F.Regex p o) h s l = s.2 ∙ sym (append_assoc (p ++ 0 ∷ []) o (0 ∷ []))
+  leaf_back b (Value-F.DbPointer t d) h s l = s.3 ∙ ap (λ (c : List ℕ). c ++ d) (string_back s.0 t (front_bytes s.0 d (subst AreBytes s.3 h)) s.1)
+  leaf_back b (Value-F.Code t) h s l = string_back b t h s
+  leaf_back b (Value-F.Symbol t) h s l = string_back b t h s
+  leaf_back b (Value-F.ScopedCode t fs) h s l = absurd l
+  leaf_back b (Value-F.Int z) h s l = int_back b z h s
+  leaf_back b (Value-F.Stamp t) h s l =
+      let parts : AreBytes (s.0 ++ s.1) = subst AreBytes s.4 h in
+      s.4 ∙ ap (λ (c : List ℕ). c ++ s.1) (word_back s.0 t.inc (front_bytes s.0 s.1 parts) s.2) ∙ ap (λ (c : List ℕ). to_le_bytes w32 t.inc ++ c) (word_back s.1 t.secs (back_bytes s.0 s.1 parts) s.3)
+  leaf_back b (Value-F.Long z) h s l = long_back b z h s
+  leaf_back b (Value-F.Decimal d) h s l = s.1
+  leaf_back b Value-F.MinKey h s l = s
+  leaf_back b Value-F.MaxKey h s l = s
+
+pub leaf_spelled_once : LeafSpelledOnce
+leaf_spelled_once tag b v h s l =
+    leaf_back (IsDocument s.levels) (IsArray s.levels) b (out-Value v) h s.spells l ∙ ap (λ (t : Typed). t.1) (sym (spelling_out v))
