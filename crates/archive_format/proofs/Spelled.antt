@@ -104,6 +104,7 @@ differ a b h e = let k : bytes_eq a b ≡ true = (bytes_eq-Decides a b).1 e in c
 
 module _ (ns : NsName) (eof : Truth) (z : ℤ) where
   pub head_size : length (head_text ns eof z) ≡ length ns.db + length ns.coll + 50
+  unfolding head_text
   head_size =
       let fs = head_fields ns eof z in
       omega (arith, document_length fs, elements_size db_name (Str ns.db) ((collection_name, Str ns.coll) ∷ (eof_name, Bool eof) ∷ (crc_name, Long z) ∷ []), elements_size collection_name (Str ns.coll) ((eof_name, Bool eof) ∷ (crc_name, Long z) ∷ []), elements_size eof_name (Bool eof) ((crc_name, Long z) ∷ []), elements_size crc_name (Long z) [], str_size ns.db, str_size ns.coll, bool_size eof, long_size z)
@@ -119,6 +120,7 @@ module _ (ns : NsName) (eof : Truth) (z : ℤ) where
     )
 
     head_fields_read : HeadFits ns → fields_of (head_text ns eof z) ≡ Ok (head_fields ns eof z)
+    unfolding head_text
     head_fields_read fits = is_read (head_fields ns eof z) head_kept (omega (arith, head_size, document_length (head_fields ns eof z), fits)) (omega (arith, str_level ns.db, str_level ns.coll, bool_level eof, long_level z))
 
     head_shaped : is_namespace ns ≡ true → ns_head_of (head_fields ns eof z) ≡ Ok (record { ns = ns; eof = eof; crc = if eof then Some z else None })
@@ -136,6 +138,7 @@ heads_are_read ns eof z texts fit fits sound = rw (head_fields_read ns eof z tex
 
 module _ (m : Metadata) where
   pub meta_size : length (meta_text m) ≡ length m.ns.db + length m.ns.coll + length m.text + 77
+  unfolding meta_text
   meta_size =
       let rest : List (List ℕ × Value) = (size_name, Int (pos 0)) ∷ (type_name, Str (codes "collection")) ∷ [] in
       omega (arith, document_length (meta_fields m), elements_size db_name (Str m.ns.db) ((collection_name, Str m.ns.coll) ∷ (metadata_name, Str m.text) ∷ rest), elements_size collection_name (Str m.ns.coll) ((metadata_name, Str m.text) ∷ rest), elements_size metadata_name (Str m.text) rest, elements_size size_name (Int (pos 0)) ((type_name, Str (codes "collection")) ∷ []), elements_size type_name (Str (codes "collection")) [], str_size m.ns.db, str_size m.ns.coll, str_size m.text, str_size (codes "collection"), int_size (pos 0))
@@ -151,6 +154,7 @@ module _ (m : Metadata) where
     )
 
     meta_fields_read : MetaFits m → fields_of (meta_text m) ≡ Ok (meta_fields m)
+    unfolding meta_text
     meta_fields_read fits = is_read (meta_fields m) meta_kept (omega (arith, meta_size, document_length (meta_fields m), fits)) (omega (arith, str_level m.ns.db, str_level m.ns.coll, str_level m.text, int_level (pos 0), str_level (codes "collection")))
 
     meta_shaped : is_namespace m.ns ≡ true → meta_of (meta_fields m) ≡ Ok m
@@ -165,6 +169,7 @@ metas_are_read m texts text fits sound = rw (meta_fields_read m texts text fits,
 
 module _ (h : Header) where
   pub header_size : length (header_text h) ≡ length h.server + length h.tool + 90
+  unfolding header_text
   header_size =
       let rest : List (List ℕ × Value) = (server_name, Str h.server) ∷ (tool_name, Str h.tool) ∷ [] in
       omega (arith, document_length (header_fields h), elements_size concurrent_name (Int h.concurrent) ((version_name, Str format_version) ∷ rest), elements_size version_name (Str format_version) rest, elements_size server_name (Str h.server) ((tool_name, Str h.tool) ∷ []), elements_size tool_name (Str h.tool) [], str_size format_version, str_size h.server, str_size h.tool, int_size h.concurrent)
@@ -180,6 +185,7 @@ module _ (h : Header) where
     )
 
     header_fields_read : HeaderFits h → fields_of (header_text h) ≡ Ok (header_fields h)
+    unfolding header_text
     header_fields_read fits = is_read (header_fields h) header_kept (omega (arith, header_size, document_length (header_fields h), fits)) (omega (arith, str_level format_version, str_level h.server, str_level h.tool, int_level h.concurrent))
 
     header_shaped : header_of (header_fields h) ≡ Ok h

@@ -24,10 +24,10 @@ header_fields h = (concurrent_name, Int h.concurrent) ∷ (version_name, Str for
 abbrev pub meta_fields : Metadata → List (List ℕ × Value)
 meta_fields m = (db_name, Str m.ns.db) ∷ (collection_name, Str m.ns.coll) ∷ (metadata_name, Str m.text) ∷ (size_name, Int (pos 0)) ∷ (type_name, Str (codes "collection")) ∷ []
 
-abbrev pub header_text : Header → List ℕ
+unfoldable pub header_text : Header → List ℕ
 header_text h = document_text (header_fields h)
 
-abbrev pub meta_text : Metadata → List ℕ
+unfoldable pub meta_text : Metadata → List ℕ
 meta_text m = document_text (meta_fields m)
 
 abbrev pub metas_text : List Metadata → List ℕ
@@ -43,7 +43,7 @@ abbrev pub head_fields : NsName → Bool → ℤ → List (List ℕ × Value)
 head_fields ns eof crc = (db_name, Str ns.db) ∷ (collection_name, Str ns.coll) ∷ (eof_name, Truth eof) ∷ (crc_name, Long crc) ∷ []
 
 -- the header of a block, or of a namespace's end with the checksum
-abbrev pub head_text : NsName → Bool → ℤ → List ℕ
+unfoldable pub head_text : NsName → Bool → ℤ → List ℕ
 head_text ns eof crc = document_text (head_fields ns eof crc)
 
 -- these bytes one after the other
