@@ -1,24 +1,12 @@
 -- A block, part by part.
 use Rattle.std.proofs.Common.{◌≡◌, ℕ, List, [], ◌∷◌, ◌++◌, Bool, false, refl, sym, ap, subst, ◌∙◌}
-use Rattle.std.specs.Prelude.{Option, Result, Ok, Err, OnOk, OnErr, pos}
+use Rattle.std.specs.Prelude.{Option, pos}
 use Rattle.std.specs.Io.KnownBytes.{Appends}
 use Rattle.tool_io.specs.Causes.{AppendsFront}
 use Rattle.tool_io.proofs.Writes.{appends_two, front_first, front_next}
 use Rattle.bson_value.specs.declared.namespace.NsName.{NsName}
 use Rattle.archive_format.specs.Archive.{stop_bytes}
 use Rattle.archive_format.specs.Written.{joined, head_text, block_text}
-
-pub on_ok : {A E : Type 0} {P Q : Type 0} (r : Result A E) → (P → Q) → OnOk r P → OnOk r Q
-on_ok (Ok a) f p = f p
-on_ok (Err e) f p = tt
-
-pub on_err : {A E : Type 0} {P Q : Type 0} (r : Result A E) → (P → Q) → OnErr r P → OnErr r Q
-on_err (Ok a) f p = tt
-on_err (Err e) f p = f p
-
-pub whatever_err : {A E : Type 0} {P : Type 0} (r : Result A E) → P → OnErr r P
-whatever_err (Ok a) p = tt
-whatever_err (Err e) p = p
 
 block_is : (ns : NsName) (ds : List (List ℕ)) → (ds ≡ [] → ⊥) → block_text ns ds ≡ head_text ns false (pos 0) ++ joined ds ++ stop_bytes
 block_is ns [] h = absurd (h refl)

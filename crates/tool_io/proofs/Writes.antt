@@ -1,11 +1,24 @@
 -- Pieces that are written one after the other, or some front of them.
 use Rattle.std.proofs.Common.{◌≡◌, ℕ, zero, suc, ◌+◌, ◌<◌, ◌≤◌, List, [], ◌∷◌, ◌++◌, length, take, drop, get_or, inl, inr, refl, sym, ap, subst, ◌∙◌, append_assoc, arith}
-use Rattle.std.specs.Prelude.{Option, None, Some, flat_map}
+use Rattle.std.specs.Prelude.{Option, None, Some, Result, Ok, Err, OnOk, OnErr, flat_map}
 use Rattle.std.specs.Io.KnownBytes.{Appends}
 use Rattle.std.proofs.Math.Seq.{take-length, take-append-add}
 use Rattle.std.proofs.lemmas.List.{append-nil, take-append-le, take_all, take_more, flat_map_more}
 use Rattle.std.proofs.lemmas.Bool.{cases_lt}
 use Rattle.tool_io.specs.Causes.{AppendsFront}
+
+-- what is said of an answer, where another thing follows from it
+pub on_ok : {A E : Type 0} {P Q : Type 0} (r : Result A E) → (P → Q) → OnOk r P → OnOk r Q
+on_ok (Ok a) f p = f p
+on_ok (Err e) f p = tt
+
+pub on_err : {A E : Type 0} {P Q : Type 0} (r : Result A E) → (P → Q) → OnErr r P → OnErr r Q
+on_err (Ok a) f p = tt
+on_err (Err e) f p = f p
+
+pub whatever_err : {A E : Type 0} {P : Type 0} (r : Result A E) → P → OnErr r P
+whatever_err (Ok a) p = tt
+whatever_err (Err e) p = p
 
 pub appends_none : (a : Option (List ℕ)) → Appends a a []
 appends_none None = tt

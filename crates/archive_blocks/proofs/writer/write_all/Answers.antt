@@ -1,9 +1,8 @@
 use Rattle.std.proofs.Common.{◌≡◌, ℕ, ◌+◌, List, ◌++◌, take, sym, ap, ◌∙◌, arith, rules}
-use Rattle.tool_io.proofs.Writes.{pieces_more, pieces_front, flat_more}
+use Rattle.tool_io.proofs.Writes.{pieces_more, pieces_front, flat_more, whatever_err}
 use Rattle.archive_format.specs.Crc.{crc_on}
 use Rattle.archive_format.specs.Written.{joined}
 use Rattle.archive_blocks.proofs.Linear.{after_both}
-use Rattle.archive_blocks.proofs.Blocks.{whatever_err}
 use Rattle.archive_blocks.proofs.writer.write_all.Goals as goal
 
 pub returns-in_err-write-clause-err : goal.returns-in_err-write-clause-err

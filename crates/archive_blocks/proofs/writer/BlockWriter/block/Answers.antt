@@ -3,7 +3,8 @@ use Rattle.std.specs.Prelude.{pos}
 use Rattle.std.specs.Io.KnownBytes.{Appends}
 use Rattle.tool_io.specs.Causes.{AppendsFront}
 use Rattle.archive_format.specs.Written.{joined, head_text}
-use Rattle.archive_blocks.proofs.Blocks.{on_ok, on_err, whatever_err, head_front, documents_front, stop_front, whole_block}
+use Rattle.tool_io.proofs.Writes.{on_ok, on_err, whatever_err}
+use Rattle.archive_blocks.proofs.Blocks.{head_front, documents_front, stop_front, whole_block}
 use Rattle.archive_blocks.proofs.writer.BlockWriter.block.Goals as goal
 
 pub returns-in_err-write-clause-err : goal.returns-in_err-write-clause-err

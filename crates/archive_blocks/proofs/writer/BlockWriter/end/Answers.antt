@@ -1,7 +1,7 @@
 use Rattle.std.proofs.Common.{◌≡◌, List, ℕ, subst, rules}
 use Rattle.tool_io.specs.Causes.{AppendsFront}
 use Rattle.archive_format.specs.Written.{end_text}
-use Rattle.archive_blocks.proofs.Blocks.{on_err}
+use Rattle.tool_io.proofs.Writes.{on_err}
 use Rattle.archive_blocks.proofs.writer.BlockWriter.end.Goals as goal
 
 pub returns-clause-err : goal.returns-clause-err
