@@ -1,8 +1,12 @@
-//! The blocks of an archive.
+//! The blocks of an archive: their headers are read, and blocks are written.
 #![tactic(auto)]
 
 mod crc;
+mod heads;
 #[cfg(test)]
 mod tests;
+mod writer;
 
 pub use crc::Crc;
+pub use heads::{HeadFault, NsHead, read_ns_head};
+pub use writer::BlockWriter;

@@ -1,3 +1,4 @@
 pub mod Fronts
 pub mod Fold
 pub mod Vectors
+pub mod Spelled

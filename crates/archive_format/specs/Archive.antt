@@ -9,7 +9,7 @@ use Rattle.bson_check.specs.declared.fault.BsonFault.{BsonFault}
 use Rattle.bson_check.specs.declared.fault.BsonKind.TheVariants as kinds
 use Rattle.bson_check.specs.Reading.{document_of}
 use Rattle.archive_format.specs.Crc.{crc_start, crc_on, crc_end}
-use Rattle.archive_format.specs.Shapes.{Shaped, Header as PreludeHeader, header_of, Metadata, meta_of, Head, ns_head_of, is_oplog}
+use Rattle.archive_format.specs.Shapes.{Shaped, ShapeFault, Header as PreludeHeader, header_of, Metadata, meta_of, Head, ns_head_of, is_oplog}
 use Rattle.archive_format.specs.declared.fault.DemuxFault.{DemuxFault}
 use Rattle.archive_format.specs.declared.fault.DemuxFault.TheVariants.{BadMagic, Truncated, BadBson, BadPrelude, BadHeader, AfterEnd, DocsInEnd, Crc, NotEnded, TooLong}
 use Rattle.archive_format.specs.declared.place.Place.{Place}
@@ -85,6 +85,11 @@ abbrev pub shaped_in : {A : Type 0} → (List (List ℕ × Value) → Shaped A) 
 shaped_in look (Err f) = None
 shaped_in look (Ok fs) = result_ok (look fs)
 
+-- the first fault of a document's shape
+abbrev pub misshapen_in : {A : Type 0} → (List (List ℕ × Value) → Shaped A) → Result (List (List ℕ × Value)) BsonFault → Option ShapeFault
+misshapen_in look (Err f) = None
+misshapen_in look (Ok fs) = result_err (look fs)
+
 -- what the parts read of a document of BSON, and nothing where it has another shape
 unfoldable pub header_in : List ℕ → Option PreludeHeader
 header_in b = shaped_in header_of (fields_of b)
@@ -94,6 +99,9 @@ metadata_in b = shaped_in meta_of (fields_of b)
 
 unfoldable pub head_in : List ℕ → Option Head
 head_in b = shaped_in ns_head_of (fields_of b)
+
+unfoldable pub head_fault_in : List ℕ → Option ShapeFault
+head_fault_in b = misshapen_in ns_head_of (fields_of b)
 
 -- bytes that are no document of BSON are a fault before any other
 unfoldable pub fault_in : List ℕ → Option BsonFault

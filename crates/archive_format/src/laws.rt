@@ -1,5 +1,5 @@
 //! Laws of the definitions. Each function does nothing, and its caller learns the law.
-ghost use Rattle.archive_format.specs.Laws.{OneEnd, ContentOrFault, CrcByParts};
+ghost use Rattle.archive_format.specs.Laws.{OneEnd, ContentOrFault, CrcByParts, HeadsAreRead, MetasAreRead, HeadersAreRead, WrittenSizes};
 
 /// Each input has one longest clean front, and one end behind it.
 pub fn one_end()
@@ -14,4 +14,24 @@ pub fn content_or_fault()
 /// The checksum may be taken part by part.
 pub fn crc_by_parts()
     ensures { CrcByParts }
+{}
+
+/// The header of a block that is written is read again.
+pub fn heads_are_read()
+    ensures { HeadsAreRead }
+{}
+
+/// Metadata that are written are read again.
+pub fn metas_are_read()
+    ensures { MetasAreRead }
+{}
+
+/// The header of a prelude that is written is read again.
+pub fn headers_are_read()
+    ensures { HeadersAreRead }
+{}
+
+/// How long each of these documents is.
+pub fn written_sizes()
+    ensures { WrittenSizes }
 {}

@@ -1,0 +1,121 @@
+//! The blocks of a namespace, written one after the other.
+ghost use Rattle.std.specs.Prelude.{◌≡◌, ◌<◌, ◌≤◌, ◌++◌, ◌∷◌, [], Contains, OnOk, OnErr, IfOk, IsErrOf, pos, true, false};
+ghost use Rattle.std.specs.Io.KnownBytes.{Appends};
+ghost use Rattle.containers.specs.Entries.{IsAbsent, names_of};
+ghost use Rattle.tool_io.specs.Causes.{Rose, AppendsFront};
+ghost use Rattle.archive_format.specs.Crc.{crc_on};
+ghost use Rattle.archive_format.specs.Written.{joined, head_text, block_text, end_text, begun, with_documents, HeadFits};
+
+use crate::crc::Crc;
+use bson_core::{Bytes, CText, Doc, List, NsName, Value, encode};
+use std::alloc::{AllocError, Global};
+use std::marker::Model;
+use tool_io::{Fault, Sink};
+
+const STOP: [u8; 4] = [255, 255, 255, 255];
+
+fn add(alloc: Global, doc: &mut Doc, name: &str, value: Value) -> Result<(), AllocError>
+    requires no_zero { Contains name.now 0 → ⊥ }
+    requires absent { IsAbsent name.now (names_of doc.old) }
+    ensures { OnOk result (doc.new ≡ doc.old ++ (name.now, value) ∷ []) }
+{
+    let name = CText::of_text(alloc, name)?;
+    doc.add(name, value)
+}
+
+// The header of a block, or of the namespace's end.
+#[tactic(auto, unfolding(archive_format::specs::Written::head_text))]
+fn head(alloc: Global, ns: &NsName, eof: bool, crc: i64) -> Result<Bytes, AllocError>
+    ensures { IfOk result (λ b. b ≡ head_text ns.now eof crc) }
+{
+    let mut doc = Doc::new(alloc);
+    add(alloc, &mut doc, "db", Value::Str(ns.db.copy(alloc)?))?;
+    add(
+        alloc,
+        &mut doc,
+        "collection",
+        Value::Str(ns.coll.copy(alloc)?),
+    )?;
+    add(alloc, &mut doc, "EOF", Value::Bool(eof))?;
+    add(alloc, &mut doc, "CRC", Value::Long(crc))?;
+    encode(alloc, &doc)
+}
+
+// The documents one after the other. Their sum is taken.
+fn write_all<K: Sink>(docs: &[Bytes], sum: &mut Crc, sink: &mut K) -> Result<(), Fault>
+    ensures ok { OnOk result (Appends (K.written sink.old) (K.written sink.new) (joined docs.now)) }
+    ensures err { OnErr result (AppendsFront (K.written sink.old) (K.written sink.new) (joined docs.now)) }
+    ensures sum { OnOk result (sum.new ≡ crc_on sum.old (joined docs.now)) }
+    ensures later { K.faults sink.old ≤ K.faults sink.new }
+    ensures failed { IsErrOf result Fault.Failed → Rose (K.faults sink.old) (K.faults sink.new) }
+{
+    for doc in docs {
+        sink.write(doc.as_slice())?;
+        sum.add(doc.as_slice());
+    }
+    Ok(())
+}
+
+/// Writes the blocks of one namespace and its end. In contracts it is the namespace, and the sum of the documents that
+/// were written so far.
+#[derive(Drop)]
+pub struct BlockWriter {
+    alloc: Global,
+    ns: NsName,
+    sum: Crc,
+}
+
+impl Model for BlockWriter {
+    ghost use Rattle.archive_format.specs.Crc.{crc_on};
+    ghost use Rattle.archive_format.specs.Written.{Writing};
+
+    ghost Value = { Writing };
+
+    ghost view = { λ w. record { ns = w.ns; sum = w.sum } };
+}
+
+impl BlockWriter {
+    /// A writer of this namespace's blocks. A header has at most 16,793,600 bytes, as every document of an archive.
+    pub fn new(alloc: Global, ns: NsName) -> BlockWriter
+        requires { HeadFits ns }
+        ensures { result ≡ begun ns }
+    {
+        BlockWriter {
+            alloc,
+            ns,
+            sum: Crc::new(),
+        }
+    }
+
+    /// Writes a block: header, documents, terminator. Without documents nothing is written. Header, documents and
+    /// terminator are writes of their own. Behind an error the writer is of no use: some front of the block was written.
+    pub fn block<K: Sink>(&mut self, docs: &List<Bytes>, sink: &mut K) -> Result<(), Fault>
+        ensures ok { OnOk result (Appends (K.written sink.old) (K.written sink.new) (block_text self.old.ns docs.now)) }
+        ensures err { OnErr result (AppendsFront (K.written sink.old) (K.written sink.new) (block_text self.old.ns docs.now)) }
+        ensures sum { OnOk result (self.new ≡ with_documents self.old docs.now) }
+        ensures later { K.faults sink.old ≤ K.faults sink.new }
+        ensures failed { IsErrOf result Fault.Failed → Rose (K.faults sink.old) (K.faults sink.new) }
+    {
+        if docs.is_empty() {
+            return Ok(());
+        }
+        let head = head(self.alloc, &self.ns, false, 0)?;
+        sink.write(head.as_slice())?;
+        write_all(docs.as_slice(), &mut self.sum, sink)?;
+        sink.write(&STOP)
+    }
+
+    /// Writes the end of the namespace, with the checksum of the documents of all its blocks, in one write. Behind an
+    /// error some front of it was written.
+    pub fn end<K: Sink>(&mut self, sink: &mut K) -> Result<(), Fault>
+        ensures ok { OnOk result (Appends (K.written sink.old) (K.written sink.new) (end_text self.old.ns self.old.sum)) }
+        ensures err { OnErr result (AppendsFront (K.written sink.old) (K.written sink.new) (end_text self.old.ns self.old.sum)) }
+        ensures same { self.new ≡ self.old }
+        ensures later { K.faults sink.old ≤ K.faults sink.new }
+        ensures failed { IsErrOf result Fault.Failed → Rose (K.faults sink.old) (K.faults sink.new) }
+    {
+        let mut bytes = head(self.alloc, &self.ns, true, self.sum.sum().cast_signed())?;
+        bytes.extend_from_slice(&STOP)?;
+        sink.write(bytes.as_slice())
+    }
+}
