@@ -1,1 +1,4 @@
 pub mod Wraps
+pub mod TreeParts
+pub mod Loops
+pub mod Wholes

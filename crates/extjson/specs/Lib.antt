@@ -1,1 +1,4 @@
 pub mod Trees
+pub mod Numbers
+pub mod Wrappers
+pub mod Values

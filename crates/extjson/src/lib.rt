@@ -1,10 +1,18 @@
-//! Values of BSON as JSON: canonical Extended JSON, with doubles and decimals by their bits.
+//! Values of BSON as JSON, and read back: canonical Extended JSON, with doubles and decimals by their bits.
 #![tactic(auto)]
 
+mod fault;
+mod numbers;
+mod parts;
+mod reading;
 #[cfg(test)]
 mod tests;
+mod wrapped;
+mod wrapper;
 mod writing;
 
 pub use bson_value::Value;
+pub use fault::ExtFault;
 pub use json_text::Tree;
+pub use reading::value_of;
 pub use writing::tree_of;
