@@ -2,3 +2,5 @@ pub mod Wraps
 pub mod TreeParts
 pub mod Loops
 pub mod Wholes
+pub mod ReadBack
+pub mod RoundTrips

@@ -12,7 +12,7 @@ use mir.Val.{hbits, to_z, of_z}
 use lib.IntN.{nat_abs}
 use Rattle.extjson.specs.Numbers.{is_natural, is_whole, whole_number, is_within, in_range, as_count}
 
-own : IsNumeralModel (λ ds. list_all is_ascii_digit ds ≡ true) (digits_value 10)
+pub own : IsNumeralModel (λ ds. list_all is_ascii_digit ds ≡ true) (digits_value 10)
 own = numerals_by_value _ (search rules)
 
 -- ---- the texts
@@ -76,7 +76,7 @@ pub within_fits : (w : Width) (z : ℤ) → is_within (2 ^ hbits w) z ≡ true �
 within_fits w (pos n) h = record { sfits = ltb-true n (2 ^ hbits w) h }
 within_fits w (negsuc n) h = record { sfits = ltb-true n (2 ^ hbits w) h }
 
-range_some : (limit : ℕ) (z : ℤ) → is_within limit z ≡ true → in_range limit z ≡ Some z
+pub range_some : (limit : ℕ) (z : ℤ) → is_within limit z ≡ true → in_range limit z ≡ Some z
 unfolding in_range
 range_some limit z h = rw h refl
 

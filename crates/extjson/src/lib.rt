@@ -2,6 +2,7 @@
 #![tactic(auto)]
 
 mod fault;
+mod laws;
 mod numbers;
 mod parts;
 mod reading;
@@ -14,5 +15,6 @@ mod writing;
 pub use bson_value::Value;
 pub use fault::ExtFault;
 pub use json_text::Tree;
+pub use laws::trees_read_back;
 pub use reading::value_of;
 pub use writing::tree_of;
