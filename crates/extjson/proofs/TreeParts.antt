@@ -1,4 +1,5 @@
 -- The value of a tree by the values of its parts.
+use Rattle.extjson.proofs.Recursions.{by_parts-roll}
 use denote.Param.Weighed.{most}
 use Rattle.std.proofs.Common.{◌≡◌, ℕ, ◌<◌, ◌≤◌, max, length, get_or, arith, Bool as Truth, true, false, cond, List, [], ◌∷◌, Ok, Err, refl, sym, ap, ◌∙◌, subst}
 use Rattle.std.specs.Prelude.{map, codes}
@@ -8,61 +9,13 @@ use Rattle.json_text.specs.declared.tree.Tree.TheVariants as trees
 use Rattle.bson_value.specs.declared.value.Value.{Value}
 use Rattle.bson_value.specs.declared.value.Value.TheVariants as values
 use Rattle.extjson.specs.declared.fault.ExtFault.TheVariants.{BadWrapper}
-use Rattle.extjson.specs.Values.{Read, ◌>>=◌, Part, part_of, value_step, value_of, read_part, parts_of, items_value, fields_value, plain_value, object_value, wrapper_value, scoped_value, scope_of, string_of, wrapped_value, both, has_wrapper}
+use Rattle.extjson.specs.Values.{Read, ◌>>=◌, Part, value_step, value_of, read_part, parts_of, items_value, fields_value, plain_value, object_value, wrapper_value, scoped_value, scope_of, string_of, wrapped_value, both, has_wrapper}
 use Rattle.extjson.specs.Wrappers.{wrapper_of}
-
-abbrev Keeps : Tree → Type 0
-Keeps t = (part_of t).0 ≡ t
-
-abbrev Held : Type 0
-Held = (t : Tree) × Keeps t
-
-abbrev tree_in : Held → Tree
-tree_in h = h.0
-
-items_kept : (hs : List Held) → map (λ (p : Part). p.0) (map part_of (map tree_in hs)) ≡ map tree_in hs
-items_kept [] = refl
-items_kept (h ∷ hs) = λ i. h.1 i ∷ items_kept hs i
-
-abbrev first_of : List ℕ × Part → List ℕ × Tree
-first_of e = (e.0, e.1.0)
-
-abbrev parted : List ℕ × Tree → List ℕ × Part
-parted e = (e.0, part_of e.1)
-
-abbrev on_tree : List ℕ × Held → List ℕ × Tree
-on_tree e = (e.0, e.1.0)
-
-fields_kept : (hs : List (List ℕ × Held)) → map first_of (map parted (map on_tree hs)) ≡ map on_tree hs
-fields_kept [] = refl
-fields_kept (h ∷ hs) = λ i. (h.0, h.1.1 i) ∷ fields_kept hs i
-
-level_kept : (y : Tree-F Held) → map-Tree Part Tree (λ p. p.0) (map-Tree Tree Part part_of (map-Tree Held Tree tree_in y)) ≡ map-Tree Held Tree tree_in y
-level_kept (Tree-F.Items hs) = ap (λ (ts : List Tree). Tree-F.Items ts) (items_kept hs)
-level_kept (Tree-F.Object hs) = ap (λ (es : List (List ℕ × Tree)). Tree-F.Object es) (fields_kept hs)
-level_kept Tree-F.Null = refl
-level_kept (Tree-F.Bool b) = refl
-level_kept (Tree-F.Number t) = refl
-level_kept (Tree-F.Str t) = refl
-
-keeps_step : (x : Tree-F Tree) (y : Tree-F Held) → map-Tree Held Tree tree_in y ≡ x → Keeps (roll-Tree x)
-keeps_step x y e =
-    ap (λ (p : Part). p.0) (fold-roll-Tree Part (λ z. (roll-Tree (map-Tree Part Tree (λ p. p.0) z), value_step z)) x)
-    ∙ ap roll-Tree (subst (λ (z : Tree-F Tree). map-Tree Part Tree (λ p. p.0) (map-Tree Tree Part part_of z) ≡ z) e (level_kept y))
-
-keeps : (t : Tree) → Keeps t
-keeps t = ind-Tree Keeps keeps_step t
-
-part_is : (t : Tree) → part_of t ≡ read_part t
-unfolding value_of
-part_is t = λ i. (keeps t i, (part_of t).1)
 
 -- one level of a tree, where its parts are read
 pub value_roll : (x : Tree-F Tree) → value_of (roll-Tree x) ≡ value_step (map-Tree Tree Part read_part x)
 unfolding value_of
-value_roll x =
-    ap (λ (p : Part). p.1) (fold-roll-Tree Part (λ z. (roll-Tree (map-Tree Part Tree (λ p. p.0) z), value_step z)) x)
-    ∙ ap (λ (f : Tree → Part). value_step (map-Tree Tree Part f x)) (λ i t. part_is t i)
+value_roll x = by_parts-roll value_step x
 
 read_items : (ts : List Tree) → map (λ (p : Part). p.1) (map read_part ts) ≡ map value_of ts
 read_items [] = refl

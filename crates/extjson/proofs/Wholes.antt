@@ -101,12 +101,15 @@ range_is : (limit : ℕ) (z n : ℤ) (b : Bool) → is_within limit z ≡ b → 
 range_is limit z n true e h = (cc, e)
 range_is limit z n false e h = absurd cc
 
--- a number that is in range of 64 bits keeps its value as bits
-kept : (z n : ℤ) → Some n ≡ in_range 9223372036854775808 z → to_z w64 (of_z w64 n) ≡ z
+-- a number that is in range keeps its value as bits
+pub range_number : (limit : ℕ) (z n : ℤ) → Some n ≡ in_range limit z → (n ≡ z) × (is_within limit z ≡ true)
 unfolding in_range
-kept z n h =
-    let r = range_is 9223372036854775808 z n (is_within 9223372036854775808 z) refl h in
-    ap (λ (y : ℤ). to_z w64 (of_z w64 y)) r.0 ∙ to_z-of_z w64 z (within_fits w64 z r.1)
+range_number limit z n h = range_is limit z n (is_within limit z) refl h
+
+pub kept : (w : Width) (z n : ℤ) → Some n ≡ in_range (2 ^ hbits w) z → to_z w (of_z w n) ≡ z
+kept w z n h =
+    let r = range_number (2 ^ hbits w) z n h in
+    ap (λ (y : ℤ). to_z w (of_z w y)) r.0 ∙ to_z-of_z w z (within_fits w z r.1)
 
 counted_is : (z : ℤ) (n : ℕ) → FitsUnsignedBits 32 z → n ≡ nat_abs z → Some n ≡ as_count z
 unfolding as_count
@@ -136,10 +139,10 @@ unfolding in_range
 none_counted z h = not_counted z (large z (too_large 9223372036854775808 z (is_within 9223372036854775808 z) refl h))
 
 pub counted_through : (t : List ℕ) (n : ℤ) (m : ℕ) → Some n ≡ in_range 9223372036854775808 (whole_number t) → FitsUnsignedBits 32 (to_z w64 (of_z w64 n)) → m ≡ nat_abs (to_z w64 (of_z w64 n)) → Some m ≡ as_count (whole_number t)
-counted_through t n m h fits is = let e = kept (whole_number t) n h in counted_is (whole_number t) m (rw e at fits) (rw e at is)
+counted_through t n m h fits is = let e = kept w64 (whole_number t) n h in counted_is (whole_number t) m (rw e at fits) (rw e at is)
 
 pub not_through : (t : List ℕ) (n : ℤ) → Some n ≡ in_range 9223372036854775808 (whole_number t) → (FitsUnsignedBits 32 (to_z w64 (of_z w64 n)) → ⊥) → None ≡ as_count (whole_number t)
-not_through t n h fails = let e = kept (whole_number t) n h in not_counted (whole_number t) (rw e at fails)
+not_through t n h fails = let e = kept w64 (whole_number t) n h in not_counted (whole_number t) (rw e at fails)
 
 -- ---- texts without a zero
 

@@ -12,6 +12,7 @@ use Rattle.extjson.specs.declared.fault.ExtFault.{ExtFault}
 use Rattle.extjson.specs.declared.fault.ExtFault.TheVariants as faults
 use Rattle.extjson.specs.declared.wrapper.Wrapper.{Wrapper}
 use Rattle.extjson.specs.declared.wrapper.Wrapper.TheVariants as wrappers
+use Rattle.extjson.specs.Recursion.{by_parts}
 use Rattle.extjson.specs.Numbers.{is_whole, whole_number, in_range, as_count}
 use Rattle.extjson.specs.Trees.{one, minus_one}
 use Rattle.extjson.specs.Wrappers.{wrapper_of}
@@ -289,12 +290,9 @@ value_step (Tree-F.Str t) = Ok (values.Str t)
 value_step (Tree-F.Items ps) = items_value (map (λ p. p.1) ps) >>= λ vs. Ok (values.Array vs)
 value_step (Tree-F.Object es) = object_value es
 
-abbrev pub part_of : Tree → Part
-part_of = fold-Tree Part (λ x. (roll-Tree (map-Tree Part Tree (λ p. p.0) x), value_step x))
-
 -- the value of a tree
 unfoldable pub value_of : Tree → Read Value
-value_of t = (part_of t).1
+value_of t = by_parts value_step t
 
 abbrev pub read_part : Tree → Part
 read_part t = (t, value_of t)

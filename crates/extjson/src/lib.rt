@@ -5,6 +5,7 @@ mod fault;
 mod laws;
 mod numbers;
 mod parts;
+mod plain;
 mod reading;
 #[cfg(test)]
 mod tests;
@@ -16,5 +17,6 @@ pub use bson_value::Value;
 pub use fault::ExtFault;
 pub use json_text::Tree;
 pub use laws::trees_read_back;
+pub use plain::wrap_numbers;
 pub use reading::value_of;
 pub use writing::tree_of;

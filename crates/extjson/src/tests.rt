@@ -195,6 +195,34 @@ fn every_kind_has_its_text(rt: HostRuntime) -> Result<(), Fail> {
     Ok(())
 }
 
+// A text, and the text with its plain whole numbers as wrappers.
+const WRAPPED: &str = r#"
+{} {}
+1 {"$numberInt":"1"}
+-0 {"$numberInt":"0"}
+2147483648 {"$numberLong":"2147483648"}
+9223372036854775808 9223372036854775808
+1.5 1.5
+[1,"1",null,true] [{"$numberInt":"1"},"1",null,true]
+{"capped":true,"size":4096} {"capped":true,"size":{"$numberInt":"4096"}}
+{"a":{"$timestamp":{"t":1,"i":2}}} {"a":{"$timestamp":{"t":1,"i":2}}}
+{"$timestamp":{"t":1,"i":-2}} {"$timestamp":{"t":{"$numberInt":"1"},"i":{"$numberInt":"-2"}}}
+[{"$minKey":1},{"$maxKey":1}] [{"$minKey":1},{"$maxKey":1}]
+{"$minKey":2} {"$minKey":{"$numberInt":"2"}}
+{"$minKey":1,"a":1} {"$minKey":{"$numberInt":"1"},"a":{"$numberInt":"1"}}
+{"$numberInt":"5"} {"$numberInt":"5"}
+"#;
+
+#[test]
+fn plain_whole_numbers_become_wrappers(rt: HostRuntime) -> Result<(), Fail> {
+    for line in WRAPPED.lines().skip(1) {
+        let (text, wrapped) = line.split_once(' ').ok_or("no text")?;
+        let tree = wrap_numbers(rt.alloc(), &parse(rt.alloc(), text)?)?;
+        assert_eq!(rt; print(rt.alloc(), &tree)?.as_str().as_bytes(), wrapped.as_bytes());
+    }
+    Ok(())
+}
+
 #[test]
 fn every_text_is_read_back(rt: HostRuntime) -> Result<(), Fail> {
     for line in TEXTS.lines().skip(1) {

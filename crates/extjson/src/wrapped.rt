@@ -150,7 +150,7 @@ fn symbol(alloc: Global, tree: &Tree) -> Result<Value, ExtFault>
 }
 
 #[tactic(auto, unfolding(crate::specs::Values::stamp_value))]
-fn stamp(tree: &Tree) -> Result<Value, ExtFault>
+pub(crate) fn stamp(tree: &Tree) -> Result<Value, ExtFault>
     ensures { Gives (λ v. v) result (stamp_value tree.now) }
 {
     let (secs, inc) = both("t", "i", members(tree)?)?;
@@ -162,7 +162,7 @@ fn stamp(tree: &Tree) -> Result<Value, ExtFault>
 }
 
 #[tactic(auto, unfolding(crate::specs::Values::key_value))]
-fn key(tree: &Tree, key: Value) -> Result<Value, ExtFault>
+pub(crate) fn key(tree: &Tree, key: Value) -> Result<Value, ExtFault>
     ensures { Gives (λ v. v) result (key_value key tree.now) }
 {
     if number(tree)? == "1" {

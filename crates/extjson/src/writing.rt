@@ -111,14 +111,14 @@ fn oid(alloc: Global, id: &[u8]) -> Result<Tree, AllocError>
     wrap(alloc, "$oid", hex(alloc, id)?)
 }
 
-fn int(alloc: Global, n: i32) -> Result<Tree, AllocError>
+pub(crate) fn int(alloc: Global, n: i32) -> Result<Tree, AllocError>
     ensures { IfOk result (λ t. t ≡ int_tree n) }
 {
     let digits = n.to_string(alloc)?;
     wrap(alloc, "$numberInt", string(digits))
 }
 
-fn long(alloc: Global, n: i64) -> Result<Tree, AllocError>
+pub(crate) fn long(alloc: Global, n: i64) -> Result<Tree, AllocError>
     ensures { IfOk result (λ t. t ≡ long_tree n) }
 {
     let digits = n.to_string(alloc)?;
