@@ -1,1 +1,7 @@
 pub mod Trees
+pub mod Recursion
+pub mod Numbers
+pub mod Wrappers
+pub mod Values
+pub mod RoundTrip
+pub mod Plain

@@ -1,5 +1,5 @@
 -- The tree of a value: the table of canonical Extended JSON, with doubles and decimals by their bits.
-use Rattle.std.specs.Prelude.{ℕ, ℤ, Bool, true, List, [], ◌∷◌, map, reverse, codes, if◌then◌else◌}
+use Rattle.std.specs.Prelude.{ℕ, ℤ, true, List, [], ◌∷◌, map, reverse, codes, if◌then◌else◌}
 use Rattle.std.specs.Str.{bytes_eq}
 use Rattle.std.specs.Fmt.{decimal, signed_decimal}
 use Rattle.base64.specs.Engines.{standard}

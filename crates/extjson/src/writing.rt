@@ -10,9 +10,9 @@ use json_text::{Fields, JList, JText, Tree};
 use std::alloc::{AllocError, Global};
 
 // The doubles 1 and -1, the low byte first.
-const ONE: [u8; 8] = [0, 0, 0, 0, 0, 0, 240, 63];
+pub(crate) const ONE: [u8; 8] = [0, 0, 0, 0, 0, 0, 240, 63];
 
-const MINUS_ONE: [u8; 8] = [0, 0, 0, 0, 0, 0, 240, 191];
+pub(crate) const MINUS_ONE: [u8; 8] = [0, 0, 0, 0, 0, 0, 240, 191];
 
 fn text(alloc: Global, text: &str) -> Result<Tree, AllocError>
     ensures { IfOk result (λ t. t ≡ Tree.Str text.now) }
@@ -111,14 +111,14 @@ fn oid(alloc: Global, id: &[u8]) -> Result<Tree, AllocError>
     wrap(alloc, "$oid", hex(alloc, id)?)
 }
 
-fn int(alloc: Global, n: i32) -> Result<Tree, AllocError>
+pub(crate) fn int(alloc: Global, n: i32) -> Result<Tree, AllocError>
     ensures { IfOk result (λ t. t ≡ int_tree n) }
 {
     let digits = n.to_string(alloc)?;
     wrap(alloc, "$numberInt", string(digits))
 }
 
-fn long(alloc: Global, n: i64) -> Result<Tree, AllocError>
+pub(crate) fn long(alloc: Global, n: i64) -> Result<Tree, AllocError>
     ensures { IfOk result (λ t. t ≡ long_tree n) }
 {
     let digits = n.to_string(alloc)?;

@@ -1,9 +1,8 @@
-use Rattle.std.proofs.Common.{◌≡◌, ap, sym, subst, ◌∙◌, take, arith}
+use Rattle.std.proofs.Common.{◌≡◌, ap, sym, subst, ◌∙◌}
 use Rattle.std.specs.Prelude.{IfOk}
 use Rattle.std.proofs.lemmas.List.{take_all}
-use Rattle.containers.specs.Entries.{AreDistinct, names_of}
 use Rattle.json_text.specs.declared.tree.Tree.{Tree}
-use Rattle.extjson.specs.Trees.{tree_of, fields_of, scoped_tree}
+use Rattle.extjson.specs.Trees.{tree_of, fields_of}
 use Rattle.extjson.proofs.Wraps.{names_kept, scoped_is, scoped_same}
 use Rattle.extjson.proofs.writing.+tree_of.Goals as goal
 

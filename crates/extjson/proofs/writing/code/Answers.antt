@@ -1,7 +1,5 @@
-use Rattle.std.proofs.Common.{◌≡◌, ℕ, List, ap, refl, ◌∙◌, sym}
-use Rattle.json_text.specs.declared.tree.Tree.{Tree}
 use Rattle.extjson.specs.Trees.{code_tree}
-use Rattle.extjson.proofs.Wraps.{wrap_is, pair_is, str_is}
+use Rattle.extjson.proofs.Wraps.{wrap_is}
 use Rattle.extjson.proofs.writing.code.Goals as goal
 
 pub returns : goal.returns

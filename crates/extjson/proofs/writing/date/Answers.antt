@@ -1,10 +1,9 @@
-use Rattle.std.proofs.Common.{◌≡◌, ℤ, subst, ◌∙◌}
+use Rattle.std.proofs.Common.{◌≡◌, ℤ, subst}
 use Rattle.std.specs.Prelude.{IfOk}
 use Rattle.std.specs.Int.{w64}
 use Rattle.std.proofs.lemmas.Int.{to_z-of_z}
-use Rattle.json_text.specs.declared.tree.Tree.{Tree}
 use Rattle.extjson.specs.Trees.{date_tree}
-use Rattle.extjson.proofs.Wraps.{wrap_is, pair_is, str_is}
+use Rattle.extjson.proofs.Wraps.{wrap_is}
 use Rattle.extjson.proofs.writing.date.Goals as goal
 
 pub returns : goal.returns

@@ -1,4 +1,4 @@
-use Rattle.std.proofs.Common.{◌≡◌, Bool, true, false, sym, ◌∙◌}
+use Rattle.std.proofs.Common.{◌≡◌, true, false, sym, ◌∙◌}
 use Rattle.std.specs.Str.{bytes_eq}
 use Rattle.extjson.specs.Trees.{one, minus_one, double_tree}
 use Rattle.extjson.proofs.Wraps.{wrap_is}

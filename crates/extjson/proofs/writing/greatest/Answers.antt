@@ -1,7 +1,7 @@
-use Rattle.std.proofs.Common.{◌≡◌, ℕ, List, ap, refl, ◌∙◌, sym}
+use Rattle.std.proofs.Common.{ℕ, List, ap}
 use Rattle.json_text.specs.declared.tree.Tree.TheVariants as trees
 use Rattle.extjson.specs.Trees.{max_tree}
-use Rattle.extjson.proofs.Wraps.{wrap_is, pair_is, str_is}
+use Rattle.extjson.proofs.Wraps.{wrap_is}
 use Rattle.extjson.proofs.writing.greatest.Goals as goal
 
 pub returns : goal.returns

@@ -2,9 +2,8 @@ use Rattle.std.proofs.Common.{◌≡◌, ℤ, subst, ◌∙◌}
 use Rattle.std.specs.Prelude.{IfOk}
 use Rattle.std.specs.Int.{w32}
 use Rattle.std.proofs.lemmas.Int.{to_z-of_z}
-use Rattle.json_text.specs.declared.tree.Tree.{Tree}
 use Rattle.extjson.specs.Trees.{int_tree}
-use Rattle.extjson.proofs.Wraps.{wrap_is, pair_is, str_is}
+use Rattle.extjson.proofs.Wraps.{wrap_is, str_is}
 use Rattle.extjson.proofs.writing.int.Goals as goal
 
 pub returns : goal.returns

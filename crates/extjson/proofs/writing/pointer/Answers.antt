@@ -1,7 +1,6 @@
-use Rattle.std.proofs.Common.{◌≡◌, ℕ, List, ap, refl, ◌∙◌, sym}
-use Rattle.json_text.specs.declared.tree.Tree.{Tree}
+use Rattle.std.proofs.Common.{◌∙◌}
 use Rattle.extjson.specs.Trees.{pointer_tree}
-use Rattle.extjson.proofs.Wraps.{wrap_is, pair_is, str_is}
+use Rattle.extjson.proofs.Wraps.{wrap_is, pair_is}
 use Rattle.extjson.proofs.writing.pointer.Goals as goal
 
 pub returns : goal.returns

@@ -1,4 +1,4 @@
-use Rattle.std.proofs.Common.{◌≡◌, ℕ, List, subst, refl}
+use Rattle.std.proofs.Common.{◌≡◌, subst, refl}
 use Rattle.std.specs.Prelude.{IfOk}
 use Rattle.json_text.specs.declared.tree.Tree.{Tree}
 use Rattle.extjson.specs.Trees.{scoped_tree}
