@@ -30,15 +30,15 @@ abbrev pub numbered : List ℕ → ℕ → List ℕ
 numbered text n = text ++ decimal n
 
 -- the number of a kind of fault
-abbrev pub kind_number : BsonKind → ℕ
-kind_number kinds.Short = 1
-kind_number kinds.Length = 2
-kind_number kinds.Tag = 3
-kind_number kinds.Text = 4
-kind_number kinds.Repeat = 5
-kind_number kinds.Deep = 6
-kind_number kinds.Bool = 7
-kind_number kinds.TooLong = 8
+abbrev pub kind_text : BsonKind → List ℕ
+kind_text kinds.Short = codes "1"
+kind_text kinds.Length = codes "2"
+kind_text kinds.Tag = codes "3"
+kind_text kinds.Text = codes "4"
+kind_text kinds.Repeat = codes "5"
+kind_text kinds.Deep = codes "6"
+kind_text kinds.Bool = codes "7"
+kind_text kinds.TooLong = codes "8"
 
 -- database and collection, as a JSON string
 abbrev pub quoted_name : NsName → List ℕ
@@ -48,15 +48,11 @@ quoted_name n = name_text n.db n.coll
 abbrev pub sum_text : ℕ → List ℕ
 sum_text n = encode_lower (to_be_bytes w64 n)
 
--- a document that isn't one, with the number of its fault's kind
-abbrev pub bson_text : ℕ → ℕ → List ℕ
-bson_text at kind = numbered (numbered (codes "bad document at ") at ++ codes " kind ") kind
-
 -- what stands behind `bad archive: `
 abbrev pub format_text : DemuxFault → List ℕ
 format_text faults.BadMagic = codes "bad magic"
 format_text (faults.Truncated at) = numbered (codes "truncated at ") at
-format_text (faults.BadBson at kind) = bson_text at (kind_number kind)
+format_text (faults.BadBson at kind) = numbered (codes "bad document at ") at ++ codes " kind " ++ kind_text kind
 format_text (faults.BadPrelude at) = numbered (codes "bad prelude at ") at
 format_text (faults.BadHeader at) = numbered (codes "bad header at ") at
 format_text (faults.AfterEnd ns at) = numbered (codes "after end of " ++ quoted_name ns ++ codes " at ") at

@@ -2,7 +2,7 @@
 ghost use Rattle.std.specs.Prelude.{◌≡◌, ◌⊎◌, IfOk, string_bytes};
 ghost use Rattle.tools_cli.specs.Ends.{turn, Tells};
 ghost use Rattle.tools_cli.specs.Answers.{Told, RunsOut};
-ghost use Rattle.tools_cli.specs.Lines.{kind_number, quoted_name, sum_text, bson_text, format_text, refusal_text, usage_line, refusal_line, line_of};
+ghost use Rattle.tools_cli.specs.Lines.{kind_text, quoted_name, sum_text, format_text, refusal_text, usage_line, refusal_line, line_of};
 
 use crate::status::{ArchiveFault, Status};
 use archive_format::DemuxFault;
@@ -23,18 +23,19 @@ fn tell_line<R: Sink>(report: &mut R, line: &[u8], status: Status) -> Status
     }
 }
 
-fn kind_number(kind: BsonKind) -> u8
-    ensures { result ≡ kind_number kind }
+// The number of a kind of fault.
+fn kind_text(kind: BsonKind) -> &'static str
+    ensures { result.now ≡ kind_text kind }
 {
     match kind {
-        BsonKind::Short => 1,
-        BsonKind::Length => 2,
-        BsonKind::Tag => 3,
-        BsonKind::Text => 4,
-        BsonKind::Repeat => 5,
-        BsonKind::Deep => 6,
-        BsonKind::Bool => 7,
-        BsonKind::TooLong => 8,
+        BsonKind::Short => "1",
+        BsonKind::Length => "2",
+        BsonKind::Tag => "3",
+        BsonKind::Text => "4",
+        BsonKind::Repeat => "5",
+        BsonKind::Deep => "6",
+        BsonKind::Bool => "7",
+        BsonKind::TooLong => "8",
     }
 }
 
@@ -63,11 +64,12 @@ fn crc_text(alloc: Global, ns: &NsName, said: u64, found: u64) -> Result<String,
     format!(in alloc; "crc of {name} said {said} found {found}")
 }
 
-fn bson_text(alloc: Global, at: u64, kind: u8) -> Result<String, AllocError>
-    ensures { IfOk result (λ s. string_bytes s ≡ bson_text at kind) }
+fn bson_text(alloc: Global, at: u64, kind: BsonKind) -> Result<String, AllocError>
+    ensures { IfOk result (λ s. string_bytes s ≡ format_text (DemuxFault.BadBson at kind)) }
 {
-    let document = format!(in alloc; "bad document at {at}")?;
-    format!(in alloc; "{document} kind {kind}")
+    let place = format!(in alloc; "bad document at {at}")?;
+    let digit = kind_text(kind);
+    format!(in alloc; "{place} kind {digit}")
 }
 
 fn after_end_text(alloc: Global, ns: &NsName, at: u64) -> Result<String, AllocError>
@@ -91,7 +93,7 @@ fn format_text(alloc: Global, fault: &DemuxFault) -> Result<String, AllocError>
     match fault {
         DemuxFault::BadMagic => format!(in alloc; "bad magic"),
         DemuxFault::Truncated { at } => format!(in alloc; "truncated at {at}"),
-        DemuxFault::BadBson { at, kind } => bson_text(alloc, *at, kind_number(*kind)),
+        DemuxFault::BadBson { at, kind } => bson_text(alloc, *at, *kind),
         DemuxFault::BadPrelude { at } => format!(in alloc; "bad prelude at {at}"),
         DemuxFault::BadHeader { at } => format!(in alloc; "bad header at {at}"),
         DemuxFault::AfterEnd { ns, at } => after_end_text(alloc, ns, *at),
