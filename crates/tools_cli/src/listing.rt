@@ -28,7 +28,9 @@ pub fn list_archive<S: Source, K: Sink>(
             Err(Fault::NoMemory) => Status::NoMemory,
         },
         Err(RestoreFault::Format(fault)) => Status::BadArchive(ArchiveFault::Format(fault)),
-        Err(RestoreFault::Stopped(Stop::NoId { ns })) => Status::BadArchive(ArchiveFault::NoId { ns }),
+        Err(RestoreFault::Stopped(Stop::NoId { ns })) => Status::BadArchive(ArchiveFault::NoId {
+            ns,
+        }),
         Err(RestoreFault::Stopped(Stop::Unread)) => Status::Unbuilt,
         Err(RestoreFault::ReadFault) => Status::ReadFault,
         Err(RestoreFault::NoMemory) => Status::NoMemory,

@@ -101,7 +101,9 @@ fn format_text(alloc: Global, fault: &DemuxFault) -> Result<String, AllocError>
         DemuxFault::Crc { ns, said, found } => crc_text(alloc, ns, *said, *found),
         DemuxFault::NotEnded { ns } => not_ended_text(alloc, ns),
         DemuxFault::TooLong => format!(in alloc; "too long"),
-        DemuxFault::ReadFault | DemuxFault::Stopped | DemuxFault::NoMemory => Ok(String::new(alloc)),
+        DemuxFault::ReadFault | DemuxFault::Stopped | DemuxFault::NoMemory => Ok(String::new(
+            alloc,
+        )),
     }
 }
 

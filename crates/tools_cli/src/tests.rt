@@ -1,18 +1,285 @@
+ghost use Rattle.std.specs.Prelude.{◌<◌};
+
 use super::*;
 use crate::texts::{HELP, VERSION};
-use std::alloc::Global;
+use std::alloc::{AllocError, Global};
 use std::test::*;
 use tool_io::{MemSink, MemSource};
 
-// An archive of nothing: the magic number, a header and a terminator.
-const EMPTY_ARCHIVE: [u8; 108] = *b"\x6d\xe2\x99\x81\x64\x00\x00\x00\
-\x10concurrent_collections\x00\x01\x00\x00\x00\
-\x02version\x00\x04\x00\x00\x000.1\x00\
-\x02server_version\x00\x06\x00\x00\x000.0.0\x00\
-\x02tool_version\x00\x06\x00\x00\x000.0.0\x00\
-\x00\xff\xff\xff\xff";
+// The hexadecimal digits of an item of an archive.
+fn digits_of(word: &str) -> &str {
+    match word {
+        "magic" => "6de29981",
+        "stop" => "ffffffff",
+        "header" => {
+            "6400000010636f6e63757272656e745f636f6c6c656374696f6e7300010000000276657273696f6e0004000000302e3100027365727665725f76657273696f6e0006000000302e302e300002746f6f6c5f76657273696f6e0006000000302e302e300000"
+        }
+        "a.b" => {
+            "340000000264620002000000610002636f6c6c656374696f6e0002000000620008454f4600001243524300000000000000000000"
+        }
+        "c.d" => {
+            "340000000264620002000000630002636f6c6c656374696f6e0002000000640008454f4600001243524300000000000000000000"
+        }
+        "oplog" => {
+            "3700000002646200010000000002636f6c6c656374696f6e00060000006f706c6f670008454f4600001243524300000000000000000000"
+        }
+        "end-a.b" => {
+            "340000000264620002000000610002636f6c6c656374696f6e0002000000620008454f46000112435243007d2ee49e24dd510f00"
+        }
+        "end-c.d" => {
+            "340000000264620002000000630002636f6c6c656374696f6e0002000000640008454f46000112435243007d2ee49e24dd510f00"
+        }
+        "empty-a.b" => {
+            "340000000264620002000000610002636f6c6c656374696f6e0002000000620008454f4600011243524300000000000000000000"
+        }
+        "wrong-a.b" => {
+            "340000000264620002000000610002636f6c6c656374696f6e0002000000620008454f4600011243524300010000000000000000"
+        }
+        "end-mixed" => {
+            "340000000264620002000000610002636f6c6c656374696f6e0002000000620008454f4600011243524300946757b83d20919400"
+        }
+        "end-oplog" => {
+            "3700000002646200010000000002636f6c6c656374696f6e00060000006f706c6f670008454f4600011243524300069a9487a58c733c00"
+        }
+        "end-later" => {
+            "340000000264620002000000610002636f6c6c656374696f6e0002000000620008454f4600011243524300bdbc1dd6f1bdb63800"
+        }
+        "end-nameless" => {
+            "340000000264620002000000610002636f6c6c656374696f6e0002000000620008454f4600011243524300167b8b2e55501a1d00"
+        }
+        "one" => "0e000000105f6964000100000000",
+        "two" => "0e000000105f6964000200000000",
+        "later" => "17000000105f6964000100000002730002000000320000",
+        "nameless" => "0c0000001078000100000000",
+        "mixed" => {
+            "46000000027a0003000000712200105f696400010000000362001300000010790001000000107800020000000004617272001300000010370005000000103900060000000000"
+        }
+        "anything" => "1300000010616e797468696e67000100000000",
+        "empty-text" => {
+            "4f0000000264620002000000650002636f6c6c656374696f6e00020000006600026d657461646174610001000000001073697a6500000000000274797065000b000000636f6c6c656374696f6e0000"
+        }
+        "text" => {
+            "5d0000000264620002000000650002636f6c6c656374696f6e00020000006600026d65746164617461000f0000007b226f7074696f6e73223a7b7d7d001073697a6500000000000274797065000b000000636f6c6c656374696f6e0000"
+        }
+        _ => word,
+    }
+}
 
-const RESTORE: [&str; 3] = ["restore", "--archive", "--form=hex"];
+fn digit(c: u8) -> u8
+    ensures { result < 16 }
+{
+    match c {
+        b'0'..=b'9' => c - b'0',
+        b'a'..=b'f' => c - b'a' + 10,
+        _ => 0,
+    }
+}
+
+// The bytes of these items. A word that names none is digits.
+fn bytes_of(alloc: Global, words: &str) -> Result<Vec<u8>, AllocError> {
+    let mut bytes = Vec::new(alloc);
+    for word in words.split(' ') {
+        let digits = digits_of(word).as_bytes();
+        for at in 0..digits.len() / 2 {
+            bytes.push(digit(digits[2 * at]) * 16 + digit(digits[2 * at + 1]))?;
+        }
+    }
+    Ok(bytes)
+}
+
+// An input by its items, and what is answered to it.
+#[derive(Clone, Copy, Drop)]
+struct Row {
+    shows: &'static str,
+    words: &'static [&'static str],
+    input: &'static str,
+    status: u8,
+    output: &'static str,
+    report: &'static str,
+}
+
+const HEX: [&str; 3] = ["restore", "--archive", "--form=hex"];
+
+const JSON: [&str; 2] = ["restore", "--archive"];
+
+const ROWS: [Row; 22] = [
+    Row {
+        shows: "a prelude alone",
+        words: &HEX,
+        input: "magic header stop",
+        status: 0,
+        output: "",
+        report: "",
+    },
+    Row {
+        shows: "a collection without documents",
+        words: &HEX,
+        input: "magic header stop empty-a.b stop",
+        status: 0,
+        output: "collection \"a.b\" 0\noptions {}\n",
+        report: "",
+    },
+    Row {
+        shows: "blocks of two collections by turns",
+        words: &HEX,
+        input: "magic header stop a.b one stop c.d one stop a.b two stop c.d two stop end-c.d stop end-a.b stop",
+        status: 0,
+        output: "collection \"a.b\" 2\noptions {}\ndoc 0e000000105f6964000100000000\ndoc 0e000000105f6964000200000000\ncollection \"c.d\" 2\noptions {}\ndoc 0e000000105f6964000100000000\ndoc 0e000000105f6964000200000000\n",
+        report: "",
+    },
+    Row {
+        shows: "the same as JSON",
+        words: &JSON,
+        input: "magic header stop a.b one stop c.d one stop a.b two stop c.d two stop end-c.d stop end-a.b stop",
+        status: 0,
+        output: "collection \"a.b\" 2\noptions {}\ndoc {\"_id\":{\"$numberInt\":\"1\"}}\ndoc {\"_id\":{\"$numberInt\":\"2\"}}\ncollection \"c.d\" 2\noptions {}\ndoc {\"_id\":{\"$numberInt\":\"1\"}}\ndoc {\"_id\":{\"$numberInt\":\"2\"}}\n",
+        report: "",
+    },
+    Row {
+        shows: "fields by the bytes of their names, at each level, and array names from 0",
+        words: &HEX,
+        input: "magic header stop a.b mixed stop end-mixed stop",
+        status: 0,
+        output: "collection \"a.b\" 1\noptions {}\ndoc 46000000105f6964000100000004617272001300000010300005000000103100060000000003620013000000107800020000001079000100000000027a000300000071220000\n",
+        report: "",
+    },
+    Row {
+        shows: "the same as JSON",
+        words: &JSON,
+        input: "magic header stop a.b mixed stop end-mixed stop",
+        status: 0,
+        output: "collection \"a.b\" 1\noptions {}\ndoc {\"_id\":{\"$numberInt\":\"1\"},\"arr\":[{\"$numberInt\":\"5\"},{\"$numberInt\":\"6\"}],\"b\":{\"x\":{\"$numberInt\":\"2\"},\"y\":{\"$numberInt\":\"1\"}},\"z\":\"q\\\"\"}\n",
+        report: "",
+    },
+    Row {
+        shows: "of two documents with one _id the later",
+        words: &HEX,
+        input: "magic header stop a.b one later stop end-later stop",
+        status: 0,
+        output: "collection \"a.b\" 1\noptions {}\ndoc 17000000105f6964000100000002730002000000320000\n",
+        report: "",
+    },
+    Row {
+        shows: "the oplog is passed over",
+        words: &HEX,
+        input: "magic header stop oplog anything stop end-oplog stop",
+        status: 0,
+        output: "",
+        report: "",
+    },
+    Row {
+        shows: "an empty metadata text makes a collection",
+        words: &HEX,
+        input: "magic header empty-text stop",
+        status: 0,
+        output: "collection \"e.f\" 0\noptions {}\n",
+        report: "",
+    },
+    Row {
+        shows: "a metadata text that is not empty",
+        words: &HEX,
+        input: "magic header text stop",
+        status: 12,
+        output: "",
+        report: "unbuilt\n",
+    },
+    Row {
+        shows: "a document without an _id",
+        words: &HEX,
+        input: "magic header stop a.b nameless stop end-nameless stop",
+        status: 3,
+        output: "",
+        report: "bad archive: no _id in \"a.b\"\n",
+    },
+    Row {
+        shows: "another checksum",
+        words: &HEX,
+        input: "magic header stop wrong-a.b stop",
+        status: 3,
+        output: "",
+        report: "bad archive: crc of \"a.b\" said 0000000000000001 found 0000000000000000\n",
+    },
+    Row {
+        shows: "a terminator for a header",
+        words: &HEX,
+        input: "magic header stop stop",
+        status: 3,
+        output: "",
+        report: "bad archive: bad header at 108\n",
+    },
+    Row {
+        shows: "a terminator for the header of the archive",
+        words: &HEX,
+        input: "magic stop",
+        status: 3,
+        output: "",
+        report: "bad archive: bad prelude at 4\n",
+    },
+    Row {
+        shows: "a document behind an end",
+        words: &HEX,
+        input: "magic header stop empty-a.b one",
+        status: 3,
+        output: "",
+        report: "bad archive: document in end at 160\n",
+    },
+    Row {
+        shows: "two ends",
+        words: &HEX,
+        input: "magic header stop empty-a.b stop empty-a.b stop",
+        status: 3,
+        output: "",
+        report: "bad archive: after end of \"a.b\" at 164\n",
+    },
+    Row {
+        shows: "no end",
+        words: &HEX,
+        input: "magic header stop a.b one stop",
+        status: 3,
+        output: "",
+        report: "bad archive: \"a.b\" not ended\n",
+    },
+    Row {
+        shows: "a length below five",
+        words: &HEX,
+        input: "magic 04000000",
+        status: 3,
+        output: "",
+        report: "bad archive: bad document at 4 kind 2\n",
+    },
+    Row {
+        shows: "a length above the limit",
+        words: &HEX,
+        input: "magic 01400001",
+        status: 3,
+        output: "",
+        report: "bad archive: bad document at 4 kind 8\n",
+    },
+    Row {
+        shows: "no bytes",
+        words: &HEX,
+        input: "",
+        status: 3,
+        output: "",
+        report: "bad archive: truncated at 0\n",
+    },
+    Row {
+        shows: "a magic number and one byte",
+        words: &HEX,
+        input: "magic 05",
+        status: 3,
+        output: "",
+        report: "bad archive: truncated at 5\n",
+    },
+    Row {
+        shows: "another magic number",
+        words: &HEX,
+        input: "6ee29981 header stop",
+        status: 3,
+        output: "",
+        report: "bad archive: bad magic\n",
+    },
+];
 
 // What a call did: its status, and what was written to the output and to the report.
 #[derive(Drop)]
@@ -50,7 +317,7 @@ fn call(rt: HostRuntime, words: &[&str], input: &[u8], fails: Fails) -> Result<E
     for word in words {
         owned.push(String::from_str(alloc, word)?)?;
     }
-    let pieces = Vec::new(alloc);
+    let pieces = vec![in alloc; 7]?;
     let mut input = MemSource::new(input.to_vec(alloc)?, pieces, told(alloc, fails.read)?);
     let mut output = MemSink::new(alloc, told(alloc, fails.output)?);
     let mut report = MemSink::new(alloc, told(alloc, fails.report)?);
@@ -63,41 +330,52 @@ fn call(rt: HostRuntime, words: &[&str], input: &[u8], fails: Fails) -> Result<E
 }
 
 #[test]
-fn each_status_has_its_line(rt: HostRuntime) -> Result<(), Fail> {
-    let mut other_magic = EMPTY_ARCHIVE;
-    other_magic[0] = 0x6e;
-    let rows: [(&[&str], &[u8], u8, &[u8], &str); 10] = [
-        (&RESTORE, &EMPTY_ARCHIVE, 0, b"", ""),
+fn archives_are_listed_or_refused(rt: HostRuntime) -> Result<(), Fail> {
+    for row in ROWS {
+        let input = bytes_of(rt.alloc(), row.input)?;
+        let ended = call(rt, row.words, &input, NO_FAILS)?;
+        let shows = row.shows;
+        assert_eq!(rt; ended.status, row.status, "{shows}");
+        assert_eq!(rt; ended.output.written(), row.output.as_bytes(), "{shows}");
+        assert_eq!(rt; ended.report.written(), row.report.as_bytes(), "{shows}");
+    }
+    Ok(())
+}
+
+#[test]
+fn words_are_commands_or_refused(rt: HostRuntime) -> Result<(), Fail> {
+    let rows: [(&[&str], u8, &[u8], &str); 8] = [
         (
             &["restore", "--form=hex", "--archive"],
-            &EMPTY_ARCHIVE,
-            0,
-            b"",
-            "",
-        ),
-        (&RESTORE, b"", 3, b"", "bad archive: truncated at 0\n"),
-        (
-            &RESTORE,
-            b"\x6d\xe2\x99\x81\x05",
             3,
             b"",
-            "bad archive: truncated at 5\n",
+            "bad archive: truncated at 0\n",
         ),
-        (&RESTORE, &other_magic, 3, b"", "bad archive: bad magic\n"),
-        (&RESTORE, &EMPTY_ARCHIVE[..107], 12, b"", "unbuilt\n"),
+        (
+            &["restore", "--archive", "--form=json"],
+            3,
+            b"",
+            "bad archive: truncated at 0\n",
+        ),
         (
             &["restore", "--archive", "--form=xml"],
-            &EMPTY_ARCHIVE,
             1,
             b"",
             "usage: word 2\n",
         ),
-        (&["restore"], &EMPTY_ARCHIVE, 1, b"", "usage: word 1\n"),
-        (&["--help"], b"", 0, HELP.as_bytes(), ""),
-        (&["--version"], b"", 0, VERSION.as_bytes(), ""),
+        (
+            &["restore", "--archive", "--form=hex", "--form=json"],
+            1,
+            b"",
+            "usage: word 3\n",
+        ),
+        (&["restore"], 1, b"", "usage: word 1\n"),
+        (&[], 1, b"", "usage: word 0\n"),
+        (&["--help"], 0, HELP.as_bytes(), ""),
+        (&["--version"], 0, VERSION.as_bytes(), ""),
     ];
-    for (words, input, status, output, report) in rows {
-        let ended = call(rt, words, input, NO_FAILS)?;
+    for (words, status, output, report) in rows {
+        let ended = call(rt, words, b"", NO_FAILS)?;
         assert_eq!(rt; ended.status, status, "for {report}");
         assert_eq!(rt; ended.output.written(), output);
         assert_eq!(rt; ended.report.written(), report.as_bytes());
@@ -105,35 +383,44 @@ fn each_status_has_its_line(rt: HostRuntime) -> Result<(), Fail> {
     Ok(())
 }
 
+// An archive with a listing of more than one write.
+const LISTED: &str = "magic header stop a.b one two stop end-a.b stop";
+
 #[test]
 fn a_failing_end_is_told_or_passed_over(rt: HostRuntime) -> Result<(), Fail> {
+    let input = bytes_of(rt.alloc(), LISTED)?;
     let read = call(
         rt,
-        &RESTORE,
-        &EMPTY_ARCHIVE,
+        &HEX,
+        &input,
         Fails {
-            read: Some(1),
+            read: Some(9),
             ..NO_FAILS
         },
     )?;
     assert_eq!(rt; read.status, 9);
+    assert_eq!(rt; read.output.written(), b"".as_slice());
     assert_eq!(rt; read.report.written(), b"read fault\n".as_slice());
 
     let output = call(
         rt,
-        &["--version"],
-        b"",
+        &HEX,
+        &input,
         Fails {
-            output: Some(0),
+            output: Some(1),
             ..NO_FAILS
         },
     )?;
     assert_eq!(rt; output.status, 10);
+    assert_eq!(rt;
+        output.output.written(),
+        b"collection \"a.b\" 2\noptions {}\n".as_slice()
+    );
     assert_eq!(rt; output.report.written(), b"write fault\n".as_slice());
 
     let report = call(
         rt,
-        &RESTORE,
+        &HEX,
         b"",
         Fails {
             report: Some(0),

@@ -13,7 +13,7 @@ returns c =
     let place : List ℕ = codes "bad document at " ++ decimal c.args.at in
     let made : string_bytes c.in_ok-place.place ≡ place = c.in_ok-place.ensures.ok in
     weaken c.format-2.result _ _ (λ s h.
-      let told : string_bytes s ≡ string_bytes c.in_ok-place.place ++ (codes " kind " ++ c.kind_text-digit.result.now) = h in
-      told ∙ (ap (λ p. p ++ (codes " kind " ++ c.kind_text-digit.result.now)) made
-      ∙ (ap (λ k. place ++ (codes " kind " ++ k)) c.kind_text-digit.ensures ∙ sym (append_assoc place (codes " kind ") (kind_text c.args.kind)))))
+    let told : string_bytes s ≡ string_bytes c.in_ok-place.place ++ (codes " kind " ++ c.kind_text-digit.result.now) = h in
+    told ∙ (ap (λ p. p ++ (codes " kind " ++ c.kind_text-digit.result.now)) made
+    ∙ (ap (λ k. place ++ (codes " kind " ++ k)) c.kind_text-digit.ensures ∙ sym (append_assoc place (codes " kind ") (kind_text c.args.kind)))))
     c.format-2.ensures.ok
