@@ -1,15 +1,15 @@
 -- The parts of bytes that are elements.
-use Rattle.std.proofs.Common.{◌≡◌, ℕ, zero, suc, ◌+◌, ◌-◌, ◌≤◌, List, [], ◌∷◌, ◌++◌, length, take, drop, map, refl, sym, ap, subst, ◌∙◌, append_assoc, arith}
-use Rattle.std.specs.Prelude.{Option, Some, None, Contains, ◌==◌}
+use Rattle.std.proofs.Common.{◌≡◌, ℕ, zero, suc, ◌-◌, ◌≤◌, List, [], ◌∷◌, ◌++◌, length, take, map, refl, sym, ap, subst, ◌∙◌, append_assoc, arith}
+use Rattle.std.specs.Prelude.{Some, Contains, ◌==◌}
 use Rattle.std.specs.List.{position_from}
 use Rattle.std.proofs.lemmas.List.{take_at, length-append}
 use Rattle.bson_value.specs.declared.value.Value.{Value, out-Value}
 use Rattle.bson_check.specs.Passing.{upto_zero, past_zero, jump}
 use Rattle.bson_check.specs.Spells.{type_byte, AreFields, AreItems}
-use Rattle.bson_view.specs.Parts.{Part, part_bytes, part_value, values_of, fields_of, bytes_of, AreNames, first_part, parts_in, parts_of, SpellsValue}
-use Rattle.bson_view.specs.Meaning.{value_in, is_value}
+use Rattle.bson_view.specs.Parts.{Part, part_bytes, values_of, fields_of, bytes_of, AreNames, first_part, parts_in, parts_of, SpellsValue}
+use Rattle.bson_view.specs.Meaning.{value_in}
 use Rattle.bson_view.proofs.Jumps.{zero_at, front_of, past_name, jump_over}
-use Rattle.bson_view.proofs.Meanings.{value_is, value_checked}
+use Rattle.bson_view.proofs.Meanings.{value_is}
 
 -- the first element, and the others
 pub record First (n tag : ℕ) (bytes : List ℕ) (vs : List Value) : Type 0 where
