@@ -49,6 +49,9 @@ faultless max depth bytes e =
     let s = read_is_spelled max depth bytes r.0 r.1 in
     subst (λ (fs : List (List ℕ × Value)). SpellsWithin max depth bytes fs) (sym (document_is bytes r.0 s.spells)) s
 
+pub faultless_read : (max depth : ℕ) (bytes : List ℕ) → first_fault max depth bytes ≡ None → document_of max depth bytes ≡ Ok (document_in bytes)
+faultless_read max depth bytes e = spelled_is_read max depth bytes (document_in bytes) (faultless max depth bytes e)
+
 pub faultless_checked : (max depth : ℕ) (bytes : List ℕ) → first_fault max depth bytes ≡ None → IsTrue (is_document bytes)
 faultless_checked max depth bytes e = document_checked bytes (document_in bytes) (faultless max depth bytes e).spells
 
