@@ -18,7 +18,7 @@ use Rattle.bson_view.specs.Paths.{value_under, part_named, part_at_index, part_u
 use Rattle.bson_view.specs.Views.{elem_part, elem_value}
 use Rattle.bson_view.specs.HeldWalk.{fields_in, items_in}
 use Rattle.bson_view.proofs.Meanings.{checked_spells, checked_value}
-use Rattle.bson_view.proofs.Parting.{fields_items, fields_are, items_are, bytes_are}
+use Rattle.bson_view.proofs.Parting.{fields_items, fields_are, items_are, names_are, bytes_are}
 
 pub record InFrame (b elements : List ℕ) : Type 0 where
   pub body : body_of b ≡ elements
@@ -101,7 +101,7 @@ module _ (b : List ℕ) (vs : List Value) (body : ArrayBody b vs) where
 
   items_there : AreElementsOf (Value-F.Array vs) b (elements_in b)
   unfolding elements_in
-  items_there = (subst (λ (z : List ℕ). IsFrame b z) (sym (bytes_are body.levels (body_of b) vs body.spells)) body.frame, items_are body.levels (body_of b) vs body.spells)
+  items_there = (subst (λ (z : List ℕ). IsFrame b z) (sym (bytes_are body.levels (body_of b) vs body.spells)) body.frame, items_are body.levels (body_of b) vs body.spells, names_are body.levels (body_of b) vs body.spells)
 
 -- ---- values
 

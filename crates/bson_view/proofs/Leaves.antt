@@ -1,16 +1,16 @@
 -- A value that holds no document and no array has one spelling.
-use Rattle.std.proofs.Common.{◌≡◌, ℕ, zero, suc, ◌+◌, ◌%◌, ◌<◌, ◌^◌, List, [], ◌∷◌, ◌++◌, length, slice_index, refl, sym, ap, subst, ◌∙◌, append_assoc, arith}
+use Rattle.std.proofs.Common.{◌≡◌, ℕ, zero, suc, ◌+◌, ◌%◌, ◌<◌, ◌^◌, List, [], ◌∷◌, ◌++◌, length, refl, sym, ap, subst, ◌∙◌, append_assoc, arith}
 use Rattle.std.specs.Prelude.{ℤ}
-use Rattle.std.specs.Int.{w32, w64, from_le_bytes, to_le_bytes, cast_signed, cast_unsigned}
+use Rattle.std.specs.Int.{w32, w64, from_le_bytes, to_le_bytes, cast_unsigned}
 use Rattle.std.proofs.lemmas.Int.{of_z-to_z}
 use Rattle.std.proofs.lemmas.Nat.{le_bytes_4, le_bytes_8}
 use Rattle.std.proofs.lemmas.List.{get_or-append-add}
-use Rattle.bson_value.specs.Spelling.{Typed, count_bytes, text_bytes, spelling, spelling_step, spelled}
+use Rattle.bson_value.specs.Spelling.{Typed, count_bytes, text_bytes, spelling, spelling_step}
 use Rattle.bson_value.specs.declared.value.Value.{Value, out-Value, map-Value}
 use Rattle.bson_value.specs.declared.value.Value.TheOpen.{Value-F}
 use Rattle.bson_check.specs.Spells.{IsCount, IsSigned, IsString, AreBytesOf, IsDocument, IsArray}
 use Rattle.bson_core.proofs.Grammar.{spelling_out}
-use Rattle.bson_view.specs.Meaning.{AreBytes, AreValue, IsLeaf, LeafSpelledOnce}
+use Rattle.bson_view.specs.Meaning.{AreBytes, IsLeaf, LeafSpelledOnce}
 
 back_bytes : (a b : List ℕ) → AreBytes (a ++ b) → AreBytes b
 back_bytes a b h i = omega (arith, h (length a + i), get_or-append-add a b i 0)

@@ -1,5 +1,5 @@
 -- What is spelled is what the bytes mean.
-use Rattle.std.proofs.Common.{◌≡◌, ℕ, ◌≤◌, Bool, true, false, List, [], ◌∷◌, ◌++◌, length, Result, Ok, Err, refl, sym, ap, subst, ◌∙◌, arith}
+use Rattle.std.proofs.Common.{◌≡◌, ℕ, true, List, [], ◌∷◌, length, Result, Ok, Err, refl, sym, ap, subst, ◌∙◌, arith}
 use Rattle.std.specs.Prelude.{None, IsTrue, is_ok}
 use Rattle.std.specs.Result.{result_err}
 use Rattle.std.proofs.lemmas.List.{append-nil}
@@ -9,7 +9,7 @@ use Rattle.bson_check.specs.Reading.{Taken, document_of, document_at, array_at, 
 use Rattle.bson_check.specs.Spells.{Spells, SpellsWithin, type_byte, AreBytesOf, IsDocument, IsArray}
 use Rattle.bson_check.specs.Faults.{first_fault}
 use Rattle.bson_check.proofs.Again.{CanRead, value_again, document_again, array_again, scoped_again}
-use Rattle.bson_check.proofs.Found.{TookValue, value_found, document_found, array_found, scoped_found}
+use Rattle.bson_check.proofs.Found.{value_found, document_found, array_found, scoped_found}
 use Rattle.bson_check.proofs.Height.{value_within, document_within, array_within}
 use Rattle.bson_check.proofs.Whole.{read_is_spelled, spelled_is_read}
 use Rattle.bson_view.specs.Meaning.{read_document, read_fields, is_document, document_in, AreValue, read_value, ends, read_as, is_value, value_in}
@@ -48,6 +48,9 @@ faultless max depth bytes e =
     let r = no_fault (document_of max depth bytes) e in
     let s = read_is_spelled max depth bytes r.0 r.1 in
     subst (λ (fs : List (List ℕ × Value)). SpellsWithin max depth bytes fs) (sym (document_is bytes r.0 s.spells)) s
+
+pub faultless_read : (max depth : ℕ) (bytes : List ℕ) → first_fault max depth bytes ≡ None → document_of max depth bytes ≡ Ok (document_in bytes)
+faultless_read max depth bytes e = spelled_is_read max depth bytes (document_in bytes) (faultless max depth bytes e)
 
 pub faultless_checked : (max depth : ℕ) (bytes : List ℕ) → first_fault max depth bytes ≡ None → IsTrue (is_document bytes)
 faultless_checked max depth bytes e = document_checked bytes (document_in bytes) (faultless max depth bytes e).spells

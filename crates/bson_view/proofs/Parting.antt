@@ -1,15 +1,15 @@
 -- The parts of bytes that are elements.
-use Rattle.std.proofs.Common.{◌≡◌, ℕ, zero, suc, ◌+◌, ◌-◌, ◌≤◌, List, [], ◌∷◌, ◌++◌, length, take, drop, map, refl, sym, ap, subst, ◌∙◌, append_assoc, arith}
-use Rattle.std.specs.Prelude.{Option, Some, None, Contains, ◌==◌}
+use Rattle.std.proofs.Common.{◌≡◌, ℕ, zero, suc, ◌-◌, ◌≤◌, List, [], ◌∷◌, ◌++◌, length, take, map, refl, sym, ap, subst, ◌∙◌, append_assoc, arith}
+use Rattle.std.specs.Prelude.{Some, Contains, ◌==◌}
 use Rattle.std.specs.List.{position_from}
 use Rattle.std.proofs.lemmas.List.{take_at, length-append}
 use Rattle.bson_value.specs.declared.value.Value.{Value, out-Value}
 use Rattle.bson_check.specs.Passing.{upto_zero, past_zero, jump}
 use Rattle.bson_check.specs.Spells.{type_byte, AreFields, AreItems}
-use Rattle.bson_view.specs.Parts.{Part, part_bytes, part_value, values_of, fields_of, bytes_of, first_part, parts_in, parts_of, SpellsValue}
-use Rattle.bson_view.specs.Meaning.{value_in, is_value}
+use Rattle.bson_view.specs.Parts.{Part, part_bytes, values_of, fields_of, bytes_of, AreNames, first_part, parts_in, parts_of, SpellsValue}
+use Rattle.bson_view.specs.Meaning.{value_in}
 use Rattle.bson_view.proofs.Jumps.{zero_at, front_of, past_name, jump_over}
-use Rattle.bson_view.proofs.Meanings.{value_is, value_checked}
+use Rattle.bson_view.proofs.Meanings.{value_is}
 
 -- the first element, and the others
 pub record First (n tag : ℕ) (bytes : List ℕ) (vs : List Value) : Type 0 where
@@ -110,6 +110,16 @@ bytes_are n b (v ∷ vs) s =
     let here : bytes_of (parts_of (tag ∷ rest)) ≡ tag ∷ rest =
     ap bytes_of (parts_on n tag rest (v ∷ vs) f) ∙ ap (λ (x : List ℕ). part_bytes p ++ x) (bytes_are n s.2 vs s.5) ∙ sym (whole n tag rest (v ∷ vs) f) in
     subst (λ (x : List ℕ). bytes_of (parts_of x) ≡ x) (sym s.6) here
+
+pub names_are : (n : ℕ) (b : List ℕ) (vs : List Value) → AreItems (SpellsValue n) b vs → AreNames (parts_of b)
+unfolding parts_of parts_in
+names_are n b [] s = subst (λ (x : List ℕ). AreNames (parts_of x)) (sym s) tt
+names_are n b (v ∷ vs) s =
+    let f = build n s.0 s.1 s.2 v vs s.3 s.4 s.5 in
+    let tag = type_byte (out-Value v) in
+    let rest = (s.0 ++ 0 ∷ []) ++ (s.1 ++ s.2) in
+    let here : AreNames (parts_of (tag ∷ rest)) = subst (λ (ps : List Part). AreNames ps) (sym (parts_on n tag rest (v ∷ vs) f)) (s.3, names_are n s.2 vs s.5) in
+    subst (λ (x : List ℕ). AreNames (parts_of x)) (sym s.6) here
 
 -- the fields of a document are elements
 pub fields_items : (n : ℕ) (b : List ℕ) (fs : List (List ℕ × Value)) → AreFields (SpellsValue n) b fs → AreItems (SpellsValue n) b (map (λ e. e.1) fs)

@@ -1,6 +1,6 @@
 -- From one element to the next, where it is only known that there are elements.
-use Rattle.std.proofs.Common.{◌≡◌, ℕ, ◌+◌, ◌-◌, List, [], ◌∷◌, length, take, drop, refl, sym, ap, subst, ◌∙◌, arith}
-use Rattle.std.specs.Prelude.{Option, Some, None, ◌==◌, IsTrue, true}
+use Rattle.std.proofs.Common.{◌≡◌, ℕ, ◌+◌, ◌-◌, List, ◌∷◌, length, take, drop, refl, sym, ap, subst, ◌∙◌, arith}
+use Rattle.std.specs.Prelude.{Some, None, ◌==◌, IsTrue, true}
 use Rattle.std.specs.List.{position_from}
 use Rattle.std.specs.Coded.{Coded, Coded-set, code_by, coded×, coded_list, coded_ℕ}
 use Rattle.std.proofs.Math.Bool.{Bool-set}
@@ -10,7 +10,7 @@ use Rattle.bson_check.specs.Passing.{upto_zero, past_zero, jump}
 use Rattle.bson_view.specs.Meaning.{is_value}
 use Rattle.bson_view.specs.Parts.{Part, AreElements, first_part, parts_of}
 use Rattle.bson_view.proofs.Meanings.{value_checked}
-use Rattle.bson_view.proofs.Parting.{First, first_of, at_zero, part_is, others_is, parts_on}
+use Rattle.bson_view.proofs.Parting.{first_of, at_zero, part_is, others_is, parts_on}
 
 part_code : Coded Part
 part_code = code_by (List ℕ × (ℕ × List ℕ)) (coded× (coded_list coded_ℕ) (coded× coded_ℕ (coded_list coded_ℕ))) (λ p. (p.name, (p.tag, p.value))) (λ t. record { name = t.0; tag = t.1.0; value = t.1.1 }) (λ _. refl)

@@ -1,5 +1,5 @@
 -- The elements of a document or an array as parts of its bytes.
-use Rattle.std.specs.Prelude.{◌≡◌, ℕ, zero, suc, ◌-◌, ◌≤◌, List, [], ◌∷◌, ◌++◌, length, take, drop, map}
+use Rattle.std.specs.Prelude.{◌≡◌, ℕ, zero, suc, ◌-◌, ◌≤◌, List, [], ◌∷◌, ◌++◌, length, take, drop, map, Contains}
 use Rattle.std.specs.List.{flat_map}
 use Rattle.bson_value.specs.declared.value.Value.{Value, out-Value}
 use Rattle.bson_value.specs.declared.value.Value.TheOpen.{Value-F}
@@ -49,6 +49,11 @@ parts_in (suc turns) (tag ∷ bytes) = first_part tag bytes ∷ parts_in turns (
 unfoldable pub parts_of : List ℕ → List Part
 parts_of bytes = parts_in (length bytes) bytes
 
+-- no name has a zero in it
+abbrev pub AreNames : List Part → Type 0
+AreNames [] = Unit {0}
+AreNames (p ∷ ps) = (Contains p.name 0 → ⊥) × AreNames ps
+
 -- what stands between the length and the last zero
 abbrev pub body_of : List ℕ → List ℕ
 body_of bytes = take (length bytes - 5) (drop 4 bytes)
@@ -60,7 +65,7 @@ elements_in bytes = parts_of (body_of bytes)
 -- the elements in the bytes of a value: the fields of a document, or the values of an array, whose bytes, one after the other, are all but the length and the last zero. Any other value has none, also a code with a scope
 abbrev pub AreElementsOf : Value-F Value → List ℕ → List Part → Type 0
 AreElementsOf (Value-F.Object fs) bytes ps = IsFrame bytes (bytes_of ps) × (fields_of ps ≡ fs)
-AreElementsOf (Value-F.Array vs) bytes ps = IsFrame bytes (bytes_of ps) × (values_of ps ≡ vs)
+AreElementsOf (Value-F.Array vs) bytes ps = IsFrame bytes (bytes_of ps) × (values_of ps ≡ vs) × AreNames ps
 AreElementsOf _ bytes ps = ps ≡ []
 
 -- these bytes are the value, which has at most so many levels in it

@@ -1,13 +1,11 @@
 -- What views, elements and what is left of them mean.
-use Rattle.std.specs.Prelude.{◌≡◌, ℕ, ◌+◌, List, [], ◌∷◌, ◌++◌, length}
-use Rattle.std.specs.Int.{w32}
+use Rattle.std.specs.Prelude.{ℕ, List}
 use Rattle.bson_value.specs.declared.value.Value.{Value}
-use Rattle.bson_check.specs.Spells.{IsCount}
 use Rattle.bson_view.specs.declared.view.View.{View}
 use Rattle.bson_view.specs.declared.elem.Elem.{Elem}
 use Rattle.bson_view.specs.declared.elements.Elements.{Elements}
 use Rattle.bson_view.specs.Meaning.{document_in, value_in}
-use Rattle.bson_view.specs.Parts.{Part, parts_of, bytes_of}
+use Rattle.bson_view.specs.Parts.{Part, parts_of}
 
 -- the bytes that are viewed
 abbrev pub view_bytes : View → List ℕ

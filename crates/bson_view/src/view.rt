@@ -2,6 +2,7 @@
 ghost use Rattle.std.specs.Prelude.{◌≡◌, ◌↔◌, None, IsOk, IfOk, IfSome, option_map, IsTrue};
 ghost use Rattle.std.specs.Result.{result_err};
 ghost use Rattle.containers.specs.Entries.{lookup};
+ghost use Rattle.bson_check.specs.Reading.{document_of};
 ghost use Rattle.bson_check.specs.Spells.{IsFrame, Spells, SpellsWithin, IsSomeDocument};
 ghost use Rattle.bson_check.specs.Faults.{first_fault};
 ghost use Rattle.bson_view.specs.Meaning.{is_document, AreValue};
@@ -30,6 +31,7 @@ impl<'a> View<'a> {
         ensures fault { result_err result ≡ first_fault max depth bytes.now }
         ensures bytes { IfOk result (λ v. view_bytes v ≡ bytes.now) }
         ensures document { IfOk result (λ v. SpellsWithin max depth bytes.now (document v)) }
+        ensures read { IfOk result (λ v. document_of max depth bytes.now ≡ Ok (document v)) }
     {
         match check(bytes, max, depth) {
             Ok(_) => Ok(View { bytes }),
@@ -43,6 +45,7 @@ impl<'a> View<'a> {
         requires { first_fault 16793600 200 bytes.now ≡ None }
         ensures bytes { view_bytes result ≡ bytes.now }
         ensures document { SpellsWithin 16793600 200 bytes.now (document result) }
+        ensures read { document_of 16793600 200 bytes.now ≡ Ok (document result) }
     {
         View { bytes }
     }

@@ -1,4 +1,4 @@
-use Rattle.std.proofs.Common.{◌≡◌, ℕ, List, inl, inr, sym, subst, rules}
+use Rattle.std.proofs.Common.{◌≡◌, List, inl, inr, sym, subst, rules}
 use Rattle.bson_value.specs.declared.value.Value.{out-Value}
 use Rattle.bson_view.specs.Parts.{Part, AreElementsOf}
 use Rattle.bson_view.specs.Views.{elem_value}

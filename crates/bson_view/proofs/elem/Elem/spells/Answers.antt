@@ -1,4 +1,4 @@
-use Rattle.std.proofs.Common.{◌∙◌, rules}
+use Rattle.std.proofs.Common.{◌∙◌}
 use Rattle.bson_core.proofs.Grammar.{tag_is}
 use Rattle.bson_view.proofs.Leaves.{leaf_spelled_once}
 use Rattle.bson_view.proofs.Meanings.{checked_value}

@@ -1,4 +1,4 @@
-use Rattle.std.proofs.Common.{◌≡◌, inl, inr, ap, sym, ◌∙◌, rules}
+use Rattle.std.proofs.Common.{◌≡◌, inl, inr, ap, ◌∙◌, rules}
 use Rattle.std.specs.Prelude.{None, option_map}
 use Rattle.bson_view.specs.Parts.{part_value, elements_in}
 use Rattle.bson_view.specs.Paths.{part_under}
