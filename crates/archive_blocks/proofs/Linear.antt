@@ -1,14 +1,14 @@
 -- The sum of bytes is linear: what stands in several parts may be shifted part by part.
-use Rattle.std.proofs.Common.{◌≡◌, ℕ, zero, suc, ◌+◌, ◌-◌, ◌*◌, ◌/◌, ◌%◌, ◌^◌, ◌<◌, ◌≤◌, Bool, true, false, cond, eqb, List, [], ◌∷◌, ◌++◌, length, refl, sym, ap, ◌∙◌, subst, arith, inl, inr, eqb-true, eq-eqb, ne_eqb}
+use Rattle.std.proofs.Common.{◌≡◌, ℕ, zero, suc, ◌+◌, ◌-◌, ◌*◌, ◌/◌, ◌%◌, ◌^◌, ◌<◌, ◌≤◌, Bool, true, false, cond, List, [], ◌∷◌, ◌++◌, length, refl, sym, ap, ◌∙◌, arith, inl, inr, ne_eqb}
 use Rattle.std.proofs.Common.{drop, get_or, slice_index, Fits, w8, w64}
 use Rattle.std.specs.Int.{from_le_bytes}
-use Rattle.std.specs.Prelude.{bit_xor, bit_and, ◌==◌, not, ◌⊎◌}
-use Rattle.std.specs.Int.Bits.{xor_zero_l, xor_zero_r, xor_self, xor_assoc, xor_disjoint, xor_step}
+use Rattle.std.specs.Prelude.{bit_xor, ◌==◌, not, ◌⊎◌}
+use Rattle.std.specs.Int.Bits.{xor_zero_r, xor_self, xor_assoc}
 use Rattle.std.specs.Int.{bit_at}
 use Rattle.std.proofs.lemmas.Nat.{xor_comm, xor_shr, mod-pow-add, pow_pos}
 use Rattle.std.proofs.Math.Nat.{mod-lt}
-use Rattle.std.proofs.lemmas.Nat.Bits.{bit_at_xor, bit_at_lowest, bit_at_cat_low, bit_at_cat_high, bit_at_above, bit_at_and, bit_at-zero, same_from_bits, bit_at-lt}
-use Rattle.std.proofs.lemmas.Bool.{cases_Bool, cases_lt}
+use Rattle.std.proofs.lemmas.Nat.Bits.{bit_at_xor, bit_at_lowest, bit_at_cat_low, bit_at_cat_high, bit_at_above, bit_at-zero, same_from_bits, bit_at-lt}
+use Rattle.std.proofs.lemmas.Bool.{cases_lt}
 use Rattle.std.proofs.Math.Nat.{pow-suc, mul_assoc}
 use Rattle.archive_format.specs.Crc.{polynomial, shift, crc_step, crc_on}
 use Rattle.archive_blocks.specs.Shifts.{shifts}

@@ -1,6 +1,6 @@
 -- The bytes of a value, read as one of a type.
 use Rattle.std.proofs.Common.{◌≡◌, ℕ, zero, suc, ◌+◌, ◌-◌, ◌≤◌, append_assoc, false, true, ltb, eqb, List, [], ◌∷◌, ◌++◌, length, take, drop, slice_index, refl, sym, ap, subst, ◌∙◌, arith}
-use Rattle.std.specs.Prelude.{Option, None, Some, ℤ, Bool, Result, Ok, Err, IfOk, IfErr}
+use Rattle.std.specs.Prelude.{Option, None, Some, ℤ, Bool, Result, Ok, Err, OnErr, IfOk, IfErr}
 use Rattle.std.specs.Result.{result_ok, result_err}
 use Rattle.std.specs.Int.{w32, w64, from_le_bytes, cast_signed}
 use Rattle.std.specs.Str.{is_utf8}
@@ -189,3 +189,12 @@ pub fault_again : {A : Type 0} (view : A → Head) (b : List ℕ) (body : Body b
 unfolding head_fault_in
 fault_again view b body (Ok h) k = tt
 fault_again view b body (Err f) k = rw body.read k
+
+no_part : {A : Type 0} (s : Shaped A) (f : HeadFault) → IsHeadFault f (result_err s) → result_ok s ≡ None
+no_part (Ok x) f h = absurd (no_fault f h)
+no_part (Err e) f h = refl
+
+pub none_again : {A : Type 0} (view : A → Head) (b : List ℕ) (body : Body b) (r : Result A HeadFault) → ReadsPart view r (ns_head_of body.fields) → OnErr r (head_in b ≡ None)
+unfolding head_in
+none_again view b body (Ok h) k = tt
+none_again view b body (Err f) k = rw body.read (no_part (ns_head_of body.fields) f k)

@@ -1,5 +1,5 @@
 //! The headers of blocks, read without memory.
-ghost use Rattle.std.specs.Prelude.{◌≡◌, ℕ, ◌≤◌, List, length, take, None, Some, IfOk, IfErr};
+ghost use Rattle.std.specs.Prelude.{◌≡◌, ℕ, ◌≤◌, List, length, take, None, Some, OnErr, IfOk, IfErr};
 ghost use Rattle.std.specs.Int.{w64, from_le_bytes, cast_signed};
 ghost use Rattle.bson_value.specs.declared.value.Value.{Value};
 ghost use Rattle.containers.specs.Entries.{lookup};
@@ -122,6 +122,7 @@ fn of_elements(elements: &[u8]) -> Result<NsHead<'_>, HeadFault>
 pub fn read_ns_head(bytes: &[u8]) -> Result<NsHead<'_>, HeadFault>
     requires { fault_in bytes.now ≡ None }
     ensures ok { IfOk result (λ h. head_in bytes.now ≡ Some (record { ns = named h.db.now h.coll.now; eof = h.eof; crc = h.crc })) }
+    ensures none { OnErr result (head_in bytes.now ≡ None) }
     ensures err { IfErr result (λ f. IsHeadFault f (head_fault_in bytes.now)) }
 {
     of_elements(&bytes[4..bytes.len() - 1])

@@ -1,12 +1,12 @@
 -- A prelude, part by part.
-use Rattle.std.proofs.Common.{◌≡◌, ℕ, List, [], ◌∷◌, ◌++◌, map, refl, sym, ap, subst, ◌∙◌}
+use Rattle.std.proofs.Common.{◌≡◌, ℕ, List, [], ◌∷◌, ◌++◌, map, refl, ap, subst, ◌∙◌}
 use Rattle.std.specs.Prelude.{Option, Result, Ok, Err, IfOk, flat_map}
 use Rattle.std.specs.Io.KnownBytes.{Appends}
 use Rattle.tool_io.specs.Causes.{AppendsFront}
 use Rattle.tool_io.proofs.Writes.{appends_two, front_first, front_next}
 use Rattle.bson_value.specs.declared.value.Value.{Value}
 use Rattle.bson_value.specs.Spelling.{document_text}
-use Rattle.archive_format.specs.Shapes.{Header, Metadata}
+use Rattle.archive_format.specs.Shapes.{Header}
 use Rattle.archive_format.specs.Archive.{magic_bytes, stop_bytes}
 use Rattle.archive_format.specs.Written.{header_text, meta_text, metas_text, prelude_text}
 use Rattle.archive_prelude.specs.declared.prelude.Meta.{Meta}

@@ -1,9 +1,9 @@
 -- A document read field by field: a fault of a part is that of the whole.
-use Rattle.std.proofs.Common.{◌≡◌, ℕ, Bool, true, false, List, refl, sym, ap, subst, ◌∙◌}
-use Rattle.std.specs.Prelude.{ℤ, Option, None, Some, Result, Ok, Err, bytes_eq}
+use Rattle.std.proofs.Common.{◌≡◌, ℕ, true, false, List, refl, sym, ap, subst, ◌∙◌}
+use Rattle.std.specs.Prelude.{ℤ, None, Some, Ok, Err, bytes_eq}
 use Rattle.std.specs.Result.{result_err}
 use Rattle.bson_value.specs.declared.value.Value.{Value}
-use Rattle.archive_format.specs.Shapes.{Shaped, ◌>>=◌, wrong_version, bad_ns, string_of, int_of, field, concurrent_name, version_name, server_name, tool_name, db_name, collection_name, metadata_name, format_version, Header, of_version, header_of, Metadata, meta_of, named, is_namespace, of_namespace}
+use Rattle.archive_format.specs.Shapes.{Shaped, ◌>>=◌, wrong_version, bad_ns, string_of, int_of, field, concurrent_name, version_name, server_name, tool_name, db_name, collection_name, metadata_name, format_version, of_version, header_of, meta_of, named, is_namespace, of_namespace}
 use Rattle.archive_prelude.specs.declared.fault.PreludeFault.{PreludeFault}
 use Rattle.archive_prelude.specs.declared.fault.PreludeFault.TheVariants as faults
 use Rattle.archive_prelude.specs.Faults.{IsPreludeFault}

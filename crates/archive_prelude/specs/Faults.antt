@@ -1,5 +1,5 @@
 -- Why a document of a prelude has another shape.
-use Rattle.std.specs.Prelude.{⊤, ◌≡◌, Option, Some, None, Result, Ok, Err}
+use Rattle.std.specs.Prelude.{⊤, ◌≡◌, Option, Some, Result, Ok, Err}
 use Rattle.std.specs.Result.{result_err}
 use Rattle.archive_format.specs.Shapes.{Shaped, ShapeFault, missing_field, wrong_type, wrong_version, bad_ns}
 use Rattle.archive_prelude.specs.declared.fault.PreludeFault.{PreludeFault}

@@ -1,5 +1,5 @@
 -- A prelude in the words of the format.
-use Rattle.std.specs.Prelude.{All, map}
+use Rattle.std.specs.Prelude.{All}
 use Rattle.archive_format.specs.Shapes.{Header, Metadata}
 use Rattle.archive_format.specs.Written.{HeaderFits, MetaFits}
 use Rattle.archive_prelude.specs.declared.prelude.Meta.{Meta}

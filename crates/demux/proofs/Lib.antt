@@ -4,6 +4,3 @@ pub mod Buffers
 pub mod Begin
 pub mod Turn
 pub mod Sight
-pub mod Jumps
-pub mod Elements
-pub mod Typed

@@ -2,6 +2,7 @@
 use Rattle.std.specs.Prelude.{⊤, ℕ, ◌≡◌, List, [], ◌∷◌, ◌++◌, Bool, true, Option, Some, None, Result, Ok, Err, slice_get}
 use Rattle.bson_value.specs.declared.namespace.NsName.{NsName}
 use Rattle.bson_check.specs.declared.fault.BsonFault.{BsonFault}
+use Rattle.archive_prelude.specs.declared.prelude.Meta.{Meta}
 use Rattle.archive_format.specs.Archive.{Item, text_of, IsItem, Taking, meta, Seen, Stage, Verdict, goes, bad, Asks, Next, short, onward, wrong}
 use Rattle.archive_format.specs.declared.fault.DemuxFault.{DemuxFault}
 use Rattle.archive_format.specs.declared.fault.DemuxFault.TheVariants as faults
@@ -42,9 +43,9 @@ Quiet (Ok u) t v = v ≡ goes t []
 Quiet (Err f) t v = Refused f v
 
 -- the same of metadata that are handed out, unless they are passed over
-abbrev pub Notes : Result (Option (NsName × List ℕ)) DemuxFault → Stage → Verdict → Type 0
+abbrev pub Notes : Result (Option Meta) DemuxFault → Stage → Verdict → Type 0
 Notes (Ok None) t v = v ≡ goes t []
-Notes (Ok (Some m)) t v = v ≡ goes t (meta m.0 m.1 ∷ [])
+Notes (Ok (Some m)) t v = v ≡ goes t (meta m.ns m.text ∷ [])
 Notes (Err f) t v = Refused f v
 
 -- the same of an item that hands out one taking of the namespace with this number

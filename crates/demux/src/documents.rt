@@ -2,12 +2,13 @@
 ghost use Rattle.std.specs.Prelude.{◌≡◌, ⊤, List, Option, Some, None, Ok, IfOk, IfErr, OnOk, option_map, is_some};
 ghost use Rattle.archive_format.specs.Shapes.{named};
 ghost use Rattle.archive_format.specs.Archive.{header_in, metadata_in, head_in, fault_in, fields_of};
+ghost use Rattle.archive_prelude.specs.Parts.{metadata_of};
 ghost use Rattle.demux.specs.Steps.{Unread};
 
-use crate::heads::{NsHead, read_ns_head};
-use crate::prelude;
+use archive_blocks::{NsHead, read_ns_head};
 use archive_format::DemuxFault;
-use bson_core::{BsonFault, DecodeFault, Doc, MAX_DOCUMENT_BYTES, NsName, Text, check, decode};
+use archive_prelude::{Meta, PreludeFault, read_header, read_meta};
+use bson_core::{BsonFault, DecodeFault, Doc, MAX_DOCUMENT_BYTES, check, decode};
 use std::alloc::Global;
 
 // The most levels of a document.
@@ -51,17 +52,25 @@ pub fn is_header(alloc: Global, at: u64, bytes: &[u8]) -> Result<bool, DemuxFaul
     ensures err { IfErr result (λ f. Unread f at (fault_in bytes.now)) }
 {
     let doc = decoded(alloc, at, bytes)?;
-    Ok(prelude::is_header(&doc))
+    match read_header(alloc, &doc) {
+        Ok(()) => Ok(true),
+        Err(PreludeFault::NoMemory) => Err(DemuxFault::NoMemory),
+        Err(_) => Ok(false),
+    }
 }
 
 /// The namespace and the text, if the bytes are metadata.
 #[tactic(auto, unfolding(archive_format::specs::Archive::fault_in, archive_format::specs::Archive::metadata_in))]
-pub fn metadata(alloc: Global, at: u64, bytes: &[u8]) -> Result<Option<(NsName, Text)>, DemuxFault>
-    ensures ok { IfOk result (λ o. (fault_in bytes.now ≡ None) × (metadata_in bytes.now ≡ option_map (λ m. record { ns = m.0; text = m.1 }) o)) }
+pub fn metadata(alloc: Global, at: u64, bytes: &[u8]) -> Result<Option<Meta>, DemuxFault>
+    ensures ok { IfOk result (λ o. (fault_in bytes.now ≡ None) × (metadata_in bytes.now ≡ option_map metadata_of o)) }
     ensures err { IfErr result (λ f. Unread f at (fault_in bytes.now)) }
 {
     let doc = decoded(alloc, at, bytes)?;
-    Ok(prelude::read_meta(alloc, &doc)?)
+    match read_meta(alloc, &doc) {
+        Ok(meta) => Ok(Some(meta)),
+        Err(PreludeFault::NoMemory) => Err(DemuxFault::NoMemory),
+        Err(_) => Ok(None),
+    }
 }
 
 /// What a block's header says, if the bytes are one. It takes no memory.
@@ -71,5 +80,8 @@ pub fn head(at: u64, bytes: &[u8]) -> Result<Option<NsHead<'_>>, DemuxFault>
     ensures fed { IfErr result (λ f. f ≡ DemuxFault.NoMemory → ⊥) }
 {
     checked(at, bytes)?;
-    Ok(read_ns_head(bytes))
+    match read_ns_head(bytes) {
+        Ok(head) => Ok(Some(head)),
+        Err(_) => Ok(None),
+    }
 }

@@ -25,7 +25,7 @@ impl Progress {
         match self.note_metadata(at, bytes) {
             Err(fault) => Err(fault),
             Ok(None) => Ok(()),
-            Ok(Some((ns, text))) => match taker.meta(&ns, text.as_str()) {
+            Ok(Some(meta)) => match taker.meta(&meta.ns, meta.text.as_str()) {
                 Ok(()) => Ok(()),
                 Err(halt) => Err(halted(halt)),
             },

@@ -2,9 +2,7 @@
 #![tactic(auto)]
 
 mod documents;
-mod heads;
 mod items;
-mod prelude;
 mod progress;
 mod run;
 mod seen;
@@ -15,7 +13,5 @@ mod tests;
 mod window;
 
 pub use archive_format::DemuxFault;
-pub use progress::Progress;
 pub use run::Demux;
-pub use seen::Seen;
 pub use taker::{DocTaker, Halt};

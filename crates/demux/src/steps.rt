@@ -10,6 +10,7 @@ use crate::progress::Progress;
 use crate::seen::Seen;
 use crate::taker::Halt;
 use archive_format::{DemuxFault, Place};
+use archive_prelude::Meta;
 use bson_core::{BsonKind, NsName, Text};
 
 const MAGIC: [u8; 4] = [0x6d, 0xe2, 0x99, 0x81];
@@ -198,25 +199,21 @@ impl Progress {
 
     /// The namespace and the text that are to be handed out.
     #[tactic(auto, unfolding(archive_format::specs::Archive::meta_step))]
-    pub fn note_metadata(
-        &mut self,
-        at: u64,
-        bytes: &[u8],
-    ) -> Result<Option<(NsName, Text)>, DemuxFault>
+    pub fn note_metadata(&mut self, at: u64, bytes: &[u8]) -> Result<Option<Meta>, DemuxFault>
         ensures { Notes result (stage_of self.new) (sound at (meta_step (stage_of self.old) at (metadata_in bytes.now)) (fault_in bytes.now)) }
     {
         match metadata(self.alloc, at, bytes) {
             Err(fault) => Err(fault),
             Ok(None) => Err(DemuxFault::BadPrelude { at }),
-            Ok(Some((ns, text))) => {
-                if is_oplog(&ns) {
+            Ok(Some(meta)) => {
+                if is_oplog(&meta.ns) {
                     return Ok(None);
                 }
-                if meta_place(&ns, &self.metas).is_some() {
+                if meta_place(&meta.ns, &self.metas).is_some() {
                     return Err(DemuxFault::BadPrelude { at });
                 }
-                self.metas.push(ns.copy(self.alloc)?)?;
-                Ok(Some((ns, text)))
+                self.metas.push(meta.ns.copy(self.alloc)?)?;
+                Ok(Some(meta))
             }
         }
     }

@@ -1,4 +1,4 @@
-use Rattle.std.proofs.Common.{ap, sym, ◌∙◌, ℕ, List}
+use Rattle.std.proofs.Common.{ap, ◌∙◌, ℕ}
 use Rattle.std.specs.Prelude.{bit_xor}
 use Rattle.std.specs.Int.{from_le_bytes, w64}
 use Rattle.archive_blocks.specs.Shifts.{shifts}

@@ -1,4 +1,4 @@
-use Rattle.std.proofs.Common.{◌≡◌, ◌*◌, ◌%◌, ◌^◌, ◌≤◌}
+use Rattle.std.proofs.Common.{◌≡◌, ◌*◌, ◌%◌, ◌^◌}
 use Rattle.archive_blocks.specs.Shifts.{shifts}
 use Rattle.archive_blocks.proofs.crc.leave.Given as goal
 

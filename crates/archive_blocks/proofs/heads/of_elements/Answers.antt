@@ -1,4 +1,4 @@
-use Rattle.std.proofs.Common.{◌≡◌, Err, false, true, refl, sym, ◌∙◌, rules}
+use Rattle.std.proofs.Common.{◌≡◌, Err, refl, rules}
 use Rattle.archive_blocks.proofs.Typed.{no_db, no_coll, no_eof, no_crc, all_there}
 use Rattle.archive_blocks.proofs.heads.of_elements.Goals as goal
 

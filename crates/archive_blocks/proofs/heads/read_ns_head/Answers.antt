@@ -1,6 +1,5 @@
-use Rattle.std.proofs.Common.{arith, rules, sym}
-use Rattle.archive_format.specs.Archive.{head_in, head_fault_in}
-use Rattle.archive_blocks.proofs.Typed.{body_of, read_again, fault_again}
+use Rattle.std.proofs.Common.{arith}
+use Rattle.archive_blocks.proofs.Typed.{body_of, read_again, none_again, fault_again}
 use Rattle.archive_blocks.proofs.heads.read_ns_head.Goals as goal
 
 pub overflow_sub-bytes : goal.overflow_sub-bytes
@@ -17,3 +16,6 @@ returns-clause-ok c = let b = body_of c.args.bytes.now c.requires in read_again 
 
 pub returns-clause-err : goal.returns-clause-err
 returns-clause-err c = let b = body_of c.args.bytes.now c.requires in fault_again _ c.args.bytes.now b c.of_elements.result (c.of_elements.ensures b.levels b.fields b.spells)
+
+pub returns-clause-none : goal.returns-clause-none
+returns-clause-none c = let b = body_of c.args.bytes.now c.requires in none_again _ c.args.bytes.now b c.of_elements.result (c.of_elements.ensures b.levels b.fields b.spells)

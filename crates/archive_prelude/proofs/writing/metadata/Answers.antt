@@ -1,5 +1,4 @@
-use Rattle.std.proofs.Common.{refl, ◌≡◌, ℕ, List, rules}
-use Rattle.bson_value.specs.declared.value.Value.{Value}
+use Rattle.std.proofs.Common.{refl, ◌≡◌}
 use Rattle.archive_format.specs.Written.{meta_text, meta_fields}
 use Rattle.archive_prelude.specs.Parts.{metadata_of}
 use Rattle.archive_prelude.proofs.Pieces.{spelled_as}

@@ -1,4 +1,4 @@
-use Rattle.std.proofs.Common.{◌≡◌, ◌∙◌, List, ℕ, [], false, ap, subst, rules}
+use Rattle.std.proofs.Common.{◌≡◌, ◌∙◌, List, ℕ, false, ap, subst}
 use Rattle.std.specs.Prelude.{pos}
 use Rattle.std.specs.Io.KnownBytes.{Appends}
 use Rattle.tool_io.specs.Causes.{AppendsFront}
