@@ -1,0 +1,32 @@
+//! Why a text is no metadata.
+ghost use Rattle.std.specs.Prelude.{◌≡◌};
+ghost use Rattle.metadata_text.specs.declared.fault.MetaFault.TheVariants.{NoMemory};
+
+use std::alloc::{AllocError, AllocFailed};
+use thiserror::Error;
+
+/// Why a metadata text was not read.
+#[derive(Clone, Copy, Debug, PartialEq, Eq, Error)]
+pub enum MetaFault {
+    #[error("no memory")]
+    NoMemory,
+    /// The place at which the text fails as JSON, in bytes, or its length where the JSON is no metadata.
+    #[error("bad metadata at {at}")]
+    Bad { at: usize },
+}
+
+impl From<AllocError> for MetaFault {
+    ghost from_gives = { λ _ e. e ≡ NoMemory };
+
+    fn from(_e: AllocError) -> MetaFault {
+        MetaFault::NoMemory
+    }
+}
+
+impl<T: Drop> From<AllocFailed<T>> for MetaFault {
+    ghost from_gives = { λ _ e. e ≡ NoMemory };
+
+    fn from(_e: AllocFailed<T>) -> MetaFault {
+        MetaFault::NoMemory
+    }
+}

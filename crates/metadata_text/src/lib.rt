@@ -1,0 +1,12 @@
+//! The metadata of a collection as a JSON text: its options and the definitions of its indexes.
+#![tactic(auto)]
+
+mod fault;
+mod reading;
+#[cfg(test)]
+mod tests;
+mod writing;
+
+pub use fault::MetaFault;
+pub use reading::metadata_of;
+pub use writing::metadata_text;
