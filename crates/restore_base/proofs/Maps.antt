@@ -15,12 +15,13 @@ use Rattle.std.specs.Borrow.{Bor}
 use Rattle.std.specs.declared.alloc.Global.{Global}
 use Rattle.state_listing.specs.Listing.{Document}
 use Rattle.archive_format.specs.Archive.{Taking}
-use Rattle.restore_base.specs.Base.{ns_cmp, ns_of, id_key, document_taken, put_document, put_in, put_taking, collections_of, documents_at, Documents, Collections}
+use Rattle.restore_base.specs.Base.{ns_cmp, ns_of, id_key, document_taken, put_document, put_in, put_taking, collections_of, contents_at, no_contents, Contents, Collections}
 use Rattle.restore_base.specs.declared.collections.Kept.{Kept}
+use Rattle.restore_base.specs.declared.base.Held.{Held}
 use Rattle.restore_base.specs.Kept.{taking_of, takings_in}
 use Rattle.std.proofs.lemmas.List.{map_more}
 use Rattle.std.proofs.lemmas.List.Sums.{fold-append}
-use Rattle.restore_base.specs.Gathered.{DocumentMap, document_entry, documents_in, named, collection_entry, gathered_in, IsInOrder}
+use Rattle.restore_base.specs.Gathered.{DocumentMap, document_entry, documents_in, contents_in, named, collection_entry, gathered_in, IsInOrder}
 use Rattle.std.specs.declared.cmp.Ordering.{Ordering}
 use Rattle.std.specs.declared.cmp.Ordering.TheVariants.{Less, Equal, Greater}
 
@@ -154,30 +155,30 @@ abbrev name_cmp : Name → Name → Ordering
 name_cmp a b = ns_cmp (named a) (named b)
 
 abbrev NameMap : Type 0
-NameMap = BTreeMap Name DocumentMap
+NameMap = BTreeMap Name Held
 
 pub in_order : (m : NameMap) → IsStrictlySortedBy name_cmp (keys_of m.entries) → IsInOrder m
-in_order m h = sorted-map named documents_in ns_cmp m.entries h
+in_order m h = sorted-map named contents_in ns_cmp m.entries h
 
-pub collection_put : (m n : NameMap) (k : Name) (d : DocumentMap) → n.entries ≡ insert_entry name_cmp m.entries k d → gathered_in n ≡ insert_entry ns_cmp (gathered_in m) (named k) (documents_in d)
-collection_put m n k d e = ap (λ es. map collection_entry es) e ∙ insert_entry-map named documents_in ns_cmp m.entries k d
+pub collection_put : (m n : NameMap) (k : Name) (d : Held) → n.entries ≡ insert_entry name_cmp m.entries k d → gathered_in n ≡ insert_entry ns_cmp (gathered_in m) (named k) (contents_in d)
+collection_put m n k d e = ap (λ es. map collection_entry es) e ∙ insert_entry-map named contents_in ns_cmp m.entries k d
 
 pub collection_out : (m n : NameMap) (k : Name) → n.entries ≡ remove_entry (is_at (name_cmp k)) m.entries → gathered_in n ≡ remove_entry (is_at (ns_cmp (named k))) (gathered_in m)
-collection_out m n k e = ap (λ es. map collection_entry es) e ∙ remove_entry-map named documents_in ns_cmp k m.entries
+collection_out m n k e = ap (λ es. map collection_entry es) e ∙ remove_entry-map named contents_in ns_cmp k m.entries
 
-documents_found : (k : Name) (es : List (Name × DocumentMap)) (o : Option DocumentMap) → o ≡ lookup (is_at (name_cmp k)) es → unwrap_or (option_map documents_in o) [] ≡ documents_at (named k) (map collection_entry es)
-documents_found k es o e = ap (λ p. unwrap_or (option_map documents_in p) []) e ∙ ap (λ p. unwrap_or p []) (sym (lookup-map named documents_in ns_cmp k es))
+contents_found : (k : Name) (es : List (Name × Held)) (o : Option Held) → o ≡ lookup (is_at (name_cmp k)) es → unwrap_or (option_map contents_in o) no_contents ≡ contents_at (named k) (map collection_entry es)
+contents_found k es o e = ap (λ p. unwrap_or (option_map contents_in p) no_contents) e ∙ ap (λ p. unwrap_or p no_contents) (sym (lookup-map named contents_in ns_cmp k es))
 
-pub documents_some : (m : NameMap) (k : Name) (r : Option DocumentMap) (d : DocumentMap) → r ≡ lookup (is_at (name_cmp k)) m.entries → r ≡ Some d → documents_in d ≡ documents_at (named k) (gathered_in m)
-documents_some m k r d e s = documents_found k m.entries (Some d) (sym s ∙ e)
+pub contents_some : (m : NameMap) (k : Name) (r : Option Held) (d : Held) → r ≡ lookup (is_at (name_cmp k)) m.entries → r ≡ Some d → contents_in d ≡ contents_at (named k) (gathered_in m)
+contents_some m k r d e s = contents_found k m.entries (Some d) (sym s ∙ e)
 
-pub documents_none : (m : NameMap) (k : Name) (r : Option DocumentMap) (d : DocumentMap) → r ≡ lookup (is_at (name_cmp k)) m.entries → r ≡ None → d.entries ≡ [] → documents_in d ≡ documents_at (named k) (gathered_in m)
-documents_none m k r d e s z = ap (λ es. map document_entry es) z ∙ documents_found k m.entries None (sym s ∙ e)
+pub contents_none : (m : NameMap) (k : Name) (r : Option Held) (d : Held) → r ≡ lookup (is_at (name_cmp k)) m.entries → r ≡ None → contents_in d ≡ no_contents → contents_in d ≡ contents_at (named k) (gathered_in m)
+contents_none m k r d e s z = z ∙ contents_found k m.entries None (sym s ∙ e)
 
 -- taken out, changed and put back
-pub taking_put : (cs others after : Collections) (n : NsName) (ds : Documents) (t : Taking) → n ≡ ns_of t → IsStrictlySortedBy ns_cmp (keys_of cs) → others ≡ remove_entry (is_at (ns_cmp n)) cs → after ≡ insert_entry ns_cmp others n ds → ds ≡ put_in t (documents_at n cs) → after ≡ put_taking cs t
-taking_put cs others after n ds t is order out back put =
-    back ∙ (ap (λ z. insert_entry ns_cmp z n ds) out ∙ (ns_insert_entry-removed n ds cs order ∙ (ap (λ z. insert_entry ns_cmp cs n z) put ∙ ap (λ z. insert_entry ns_cmp cs z (put_in t (documents_at z cs))) is)))
+pub taking_put : (cs others after : Collections) (n : NsName) (c : Contents) (t : Taking) → n ≡ ns_of t → IsStrictlySortedBy ns_cmp (keys_of cs) → others ≡ remove_entry (is_at (ns_cmp n)) cs → after ≡ insert_entry ns_cmp others n c → c ≡ put_in t (contents_at n cs) → after ≡ put_taking cs t
+taking_put cs others after n c t is order out back put =
+    back ∙ (ap (λ z. insert_entry ns_cmp z n c) out ∙ (ns_insert_entry-removed n c cs order ∙ (ap (λ z. insert_entry ns_cmp cs n z) put ∙ ap (λ z. insert_entry ns_cmp cs z (put_in t (contents_at z cs))) is)))
 
 -- ---- one more taking
 

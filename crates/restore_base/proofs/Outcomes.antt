@@ -1,7 +1,9 @@
 -- The outcome of an input: there is one, and what a run tells shows it.
-use Rattle.std.proofs.Common.{◌≡◌, ℕ, Bool, true, false, List, [], ◌∷◌, ◌++◌, take, length, map, ◌≤◌, arith, refl, sym, ap, subst, ◌∙◌, cond}
-use Rattle.std.specs.Prelude.{Option, Some, None, IsSome, nat_lt, filter, not, ◌||◌, ◌&&◌, bytes_eq}
+use Rattle.std.proofs.Common.{◌≡◌, ℕ, Bool, true, false, List, [], ◌∷◌, ◌++◌, take, length, ◌≤◌, arith, refl, sym, ap, subst, ◌∙◌, cond}
+use Rattle.std.specs.Prelude.{Option, Some, None, IsSome, nat_lt, filter, not, ◌||◌, ◌&&◌, ◌==◌, bytes_eq}
 use Rattle.std.proofs.lemmas.List.{map-append}
+use Rattle.std.specs.Cmp.{unsigned_Decides}
+use Rattle.metadata_text.specs.Metadata.{metadata_of}
 use Rattle.std.proofs.lemmas.Slice.Eq.{bytes_eq-Decides}
 use Rattle.bson_value.specs.declared.namespace.NsName.{NsName}
 use Rattle.archive_format.specs.declared.fault.DemuxFault.{DemuxFault}
@@ -15,8 +17,8 @@ use Rattle.restore_base.specs.declared.collections.Kept.{Kept}
 use Rattle.restore_base.specs.Kept.{taking_of, takings_in}
 use Rattle.restore_base.specs.Taken.{count_of}
 use Rattle.restore_base.specs.declared.collections.Stop.{Stop}
-use Rattle.restore_base.specs.declared.collections.Stop.TheVariants.{NoId, Unread}
-use Rattle.restore_base.specs.Base.{is_of_collection, base, restored, stop_at, or_later, first_stop, same_stop}
+use Rattle.restore_base.specs.declared.collections.Stop.TheVariants.{NoId, Metadata, Indexed}
+use Rattle.restore_base.specs.Base.{is_of_collection, base, restored, metadata_stop, stop_at, or_later, first_stop, same_stop}
 use Rattle.restore_base.specs.Outcome.{Outcome, restores, refuses, stops, IsOutcome, OnInput, is_format}
 
 -- ---- one outcome
@@ -79,8 +81,12 @@ or_true false c e = cc
 passed : (b c : Bool) (s : Stop) → not b ≡ false → cond (b || c) None (Some s) ≡ None
 passed b c s e = rw (or_true b c e) refl
 
+passed_over : (b : Bool) (s : Option Stop) → not b ≡ false → cond b None s ≡ None
+passed_over true s e = refl
+passed_over false s e = cc
+
 oplog_taken : (t : Taking) → is_of_collection t ≡ false → stop_at t ≡ None
-oplog_taken (meta n x) e = passed (is_oplog n) _ Unread e
+oplog_taken (meta n x) e = passed_over (is_oplog n) (metadata_stop n (metadata_of x)) e
 oplog_taken (doc n b) e = passed (is_oplog n) _ (NoId n) e
 oplog_taken (end n) e = refl
 
@@ -113,11 +119,20 @@ same_names n m e =
 
 one_reason : (s : Stop) (o : Option Stop) → same_stop (Some s) o ≡ true → o ≡ Some s
 one_reason (NoId n) (Some (NoId m)) e = ap (λ k. Some (NoId k)) (sym (same_names n m e))
-one_reason (NoId n) (Some Unread) e = cc
+one_reason (NoId n) (Some (Metadata m b)) e = cc
+one_reason (NoId n) (Some Indexed) e = cc
 one_reason (NoId n) None e = cc
-one_reason Unread (Some (NoId m)) e = cc
-one_reason Unread (Some Unread) e = refl
-one_reason Unread None e = cc
+one_reason (Metadata n a) (Some (NoId m)) e = cc
+one_reason (Metadata n a) (Some (Metadata m b)) e =
+    let k = both (same_ns n m) (a == b) e in
+    let at : a ≡ b = (unsigned_Decides a b).0 k.1 in
+    λ i. Some (Metadata (sym (same_names n m k.0) i) (sym at i))
+one_reason (Metadata n a) (Some Indexed) e = cc
+one_reason (Metadata n a) None e = cc
+one_reason Indexed (Some (NoId m)) e = cc
+one_reason Indexed (Some (Metadata m b)) e = cc
+one_reason Indexed (Some Indexed) e = refl
+one_reason Indexed None e = cc
 
 -- ---- what a run tells
 

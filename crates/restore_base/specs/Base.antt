@@ -1,5 +1,5 @@
 -- The collections that an archive's takings make, and the first taking that a restore refuses.
-use Rattle.std.specs.Prelude.{ℕ, List, [], ◌∷◌, map, fold, Bool, true, false, not, ◌||◌, filter, Option, Some, None, is_some, codes, bytes_eq, unwrap_or, if◌then◌else◌}
+use Rattle.std.specs.Prelude.{ℕ, List, [], ◌∷◌, map, fold, Bool, true, false, not, ◌||◌, ◌&&◌, ◌==◌, filter, Option, Some, None, is_some, Ok, Err, codes, unwrap_or, if◌then◌else◌}
 use Rattle.std.specs.Result.{result_unwrap_or}
 use Rattle.std.specs.Map.{lookup as value_at}
 use Rattle.std.specs.BTreeMap.{insert_entry, is_at}
@@ -10,12 +10,14 @@ use Rattle.containers.specs.Entries.{lookup}
 use Rattle.bson_value.specs.declared.namespace.NsName.{NsName}
 use Rattle.bson_value.specs.declared.value.Value.{Value}
 use Rattle.bson_value.specs.Spelling.{tag_of, spelled}
+use Rattle.json_text.specs.declared.tree.Tree.{Tree}
 use Rattle.json_text.specs.declared.tree.Tree.TheVariants as trees
+use Rattle.metadata_text.specs.Metadata.{Meta, metadata_of}
 use Rattle.archive_format.specs.Shapes.{is_oplog}
 use Rattle.archive_format.specs.Archive.{Taking, meta, doc, end, fields_of, same_ns}
 use Rattle.state_listing.specs.Listing.{Document, Collection, State}
 use Rattle.restore_base.specs.declared.collections.Stop.{Stop}
-use Rattle.restore_base.specs.declared.collections.Stop.TheVariants.{NoId, Unread}
+use Rattle.restore_base.specs.declared.collections.Stop.TheVariants.{NoId, Metadata, Indexed}
 
 abbrev pub ns_of : Taking → NsName
 ns_of (meta n t) = n
@@ -48,32 +50,51 @@ Documents = List (List ℕ × Document)
 abbrev pub put_document : Document → Documents → Documents
 put_document d ds = insert_entry (slice_cmp nat_cmp) ds (id_key d) d
 
+abbrev pub no_options : Tree
+no_options = trees.Object []
+
+-- the options that a metadata text has
+abbrev pub options_in : Meta → Tree
+options_in (Ok x) = x.0
+options_in (Err at) = no_options
+
+abbrev pub options_taken : List ℕ → Tree
+options_taken t = options_in (metadata_of t)
+
+-- what a collection holds
+pub record Contents : Type 0 where
+  pub options : Tree
+  pub documents : Documents
+
+abbrev pub no_contents : Contents
+no_contents = record { options = no_options; documents = [] }
+
 -- what a taking makes of its collection
-abbrev pub put_in : Taking → Documents → Documents
-put_in (meta n t) ds = ds
-put_in (doc n b) ds = put_document (document_taken b) ds
-put_in (end n) ds = ds
+abbrev pub put_in : Taking → Contents → Contents
+put_in (meta n t) c = record { options = options_taken t; documents = c.documents }
+put_in (doc n b) c = record { options = c.options; documents = put_document (document_taken b) c.documents }
+put_in (end n) c = c
 
 -- namespaces go by database, and then by collection
 abbrev pub ns_cmp : NsName → NsName → Ordering
 ns_cmp a b = ordering_then (slice_cmp nat_cmp a.db b.db) (slice_cmp nat_cmp a.coll b.coll)
 
 abbrev pub Collections : Type 0
-Collections = List (NsName × Documents)
+Collections = List (NsName × Contents)
 
--- the documents of a namespace; none where it isn't there
-abbrev pub documents_at : NsName → Collections → Documents
-documents_at n cs = unwrap_or (value_at (is_at (ns_cmp n)) cs) []
+-- what a namespace holds; nothing where it isn't there
+abbrev pub contents_at : NsName → Collections → Contents
+contents_at n cs = unwrap_or (value_at (is_at (ns_cmp n)) cs) no_contents
 
 -- a taking makes its namespace, if it isn't there
 abbrev pub put_taking : Collections → Taking → Collections
-put_taking cs t = insert_entry ns_cmp cs (ns_of t) (put_in t (documents_at (ns_of t) cs))
+put_taking cs t = insert_entry ns_cmp cs (ns_of t) (put_in t (contents_at (ns_of t) cs))
 
 abbrev pub collections_of : List Taking → Collections
 collections_of ts = fold put_taking [] ts
 
-abbrev pub collection : NsName × Documents → NsName × Collection
-collection c = (c.0, record { options = trees.Object []; documents = map (λ e. e.1) c.1 })
+abbrev pub collection : NsName × Contents → NsName × Collection
+collection c = (c.0, record { options = c.1.options; documents = map (λ e. e.1) c.1.documents })
 
 -- the state that these takings make
 abbrev pub base : List Taking → State
@@ -83,20 +104,26 @@ base ts = map collection (collections_of ts)
 abbrev pub restored : List Taking → State
 restored ts = base (filter is_of_collection ts)
 
--- Why a taking is refused: a document has no _id, or a metadata text isn't read yet.
+-- Why a taking is refused: a document has no _id, a text is no metadata, or metadata define an index beside the one on _id.
 
 abbrev pub has_id : Document → Bool
 has_id d = is_some (lookup id_name d)
 
+abbrev pub metadata_stop : NsName → Meta → Option Stop
+metadata_stop n (Err at) = Some (Metadata n at)
+metadata_stop n (Ok (options, [])) = None
+metadata_stop n (Ok (options, d ∷ ds)) = Some Indexed
+
 abbrev pub stop_at : Taking → Option Stop
-stop_at (meta n t) = if is_oplog n || bytes_eq t [] then None else Some Unread
+stop_at (meta n t) = if is_oplog n then None else metadata_stop n (metadata_of t)
 stop_at (doc n b) = if is_oplog n || has_id (document_taken b) then None else Some (NoId n)
 stop_at (end n) = None
 
 -- whether these are one reason
 abbrev pub same_stop : Option Stop → Option Stop → Bool
 same_stop (Some (NoId n)) (Some (NoId m)) = same_ns n m
-same_stop (Some Unread) (Some Unread) = true
+same_stop (Some (Metadata n at)) (Some (Metadata m other)) = same_ns n m && at == other
+same_stop (Some Indexed) (Some Indexed) = true
 same_stop _ _ = false
 
 abbrev pub or_later : Option Stop → Option Stop → Option Stop

@@ -1,5 +1,5 @@
 -- What a restore makes of an input: the state of its takings, or why there is none.
-use Rattle.std.specs.Prelude.{⊤, ◌≡◌, ℕ, Bool, true, false, List, [], Option, Some, None}
+use Rattle.std.specs.Prelude.{⊤, ◌≡◌, ℕ, Bool, true, false, List, Option, Some, None}
 use Rattle.archive_format.specs.declared.fault.DemuxFault.{DemuxFault}
 use Rattle.archive_format.specs.declared.fault.DemuxFault.TheVariants as faults
 use Rattle.archive_format.specs.Archive.{Taking, Content, EndsOf}

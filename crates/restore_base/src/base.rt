@@ -2,20 +2,29 @@
 ghost use Rattle.std.specs.Prelude.{◌≡◌, OnOk, IfOk};
 ghost use Rattle.std.specs.Map.{remove_entry};
 ghost use Rattle.std.specs.BTreeMap.{insert_entry, is_at};
-ghost use Rattle.restore_base.specs.Base.{put_document, document_taken, put_in, ns_cmp, documents_at, put_taking, collections_of};
+ghost use Rattle.restore_base.specs.Base.{put_document, document_taken, options_taken, no_contents, put_in, ns_cmp, contents_at, put_taking, collections_of};
 ghost use Rattle.restore_base.specs.Kept.{taking_of, takings_in};
-ghost use Rattle.restore_base.specs.Gathered.{documents_in, named, gathered_in, IsInOrder};
+ghost use Rattle.restore_base.specs.Gathered.{documents_in, contents_in, named, gathered_in, IsInOrder};
 
 use crate::collections::Kept;
 use crate::id::id_key;
+use json_text::{Fields, Tree};
+use metadata_text::{MetaFault, metadata_of};
 use std::alloc::{AllocError, Global};
 use std::collections::BTreeMap;
 
 /// The documents of a collection, by type byte and bytes of their `_id`.
 pub type Documents<'a> = BTreeMap<Vec<u8>, &'a [u8]>;
 
-/// The documents of each namespace, by database and collection.
-pub type Gathered<'a> = BTreeMap<(&'a str, &'a str), Documents<'a>>;
+/// What a collection holds.
+#[derive(Drop)]
+pub struct Held<'a> {
+    pub options: Tree,
+    pub documents: Documents<'a>,
+}
+
+/// What each namespace holds, by database and collection.
+pub type Gathered<'a> = BTreeMap<(&'a str, &'a str), Held<'a>>;
 
 // The document in its place, over one with the same `_id`.
 fn put_document<'a>(
@@ -32,46 +41,61 @@ fn put_document<'a>(
     }
 }
 
+// The options that a metadata text has.
+fn options(alloc: Global, text: &str) -> Result<Tree, AllocError>
+    ensures { IfOk result (λ tree. tree ≡ options_taken text.now) }
+{
+    match metadata_of(alloc, text) {
+        Ok((options, _)) => Ok(options),
+        Err(MetaFault::NoMemory) => Err(AllocError),
+        Err(MetaFault::Bad { .. }) => Ok(Tree::Object(Fields::new(alloc))),
+    }
+}
+
+fn nothing<'a>(alloc: Global) -> Held<'a>
+    ensures { contents_in result ≡ no_contents }
+{
+    Held {
+        options: Tree::Object(Fields::new(alloc)),
+        documents: BTreeMap::new(alloc),
+    }
+}
+
 // What a taking makes of its collection.
-fn put_in<'a>(
-    alloc: Global,
-    documents: &mut Documents<'a>,
-    kept: &'a Kept,
-) -> Result<(), AllocError>
-    ensures { OnOk result (documents_in documents.new ≡ put_in (taking_of kept.now) (documents_in documents.old)) }
+fn put_in<'a>(alloc: Global, held: &mut Held<'a>, kept: &'a Kept) -> Result<(), AllocError>
+    ensures { OnOk result (contents_in held.new ≡ put_in (taking_of kept.now) (contents_in held.old)) }
 {
     match kept {
-        Kept::Doc(_, bytes) => put_document(alloc, documents, bytes.as_slice()),
-        Kept::Meta(_) => Ok(()),
+        Kept::Doc(_, bytes) => put_document(alloc, &mut held.documents, bytes.as_slice()),
+        Kept::Meta(_, text) => {
+            held.options = options(alloc, text.as_str())?;
+            Ok(())
+        }
         Kept::End(_) => Ok(()),
     }
 }
 
-// Takes the documents of a namespace out: none where it isn't there.
-fn take_out<'a>(
-    alloc: Global,
-    gathered: &mut Gathered<'a>,
-    name: &(&'a str, &'a str),
-) -> Documents<'a>
+// Takes what a namespace holds out: nothing where it isn't there.
+fn take_out<'a>(alloc: Global, gathered: &mut Gathered<'a>, name: &(&'a str, &'a str)) -> Held<'a>
     requires { IsInOrder gathered.old }
-    ensures documents { documents_in result ≡ documents_at (named name.now) (gathered_in gathered.old) }
+    ensures contents { contents_in result ≡ contents_at (named name.now) (gathered_in gathered.old) }
     ensures others { gathered_in gathered.new ≡ remove_entry (is_at (ns_cmp (named name.now))) (gathered_in gathered.old) }
 {
     match gathered.remove(name) {
-        Some(documents) => documents,
-        None => BTreeMap::new(alloc),
+        Some(held) => held,
+        None => nothing(alloc),
     }
 }
 
 fn put_back<'a>(
     gathered: &mut Gathered<'a>,
     name: (&'a str, &'a str),
-    documents: Documents<'a>,
+    held: Held<'a>,
 ) -> Result<(), AllocError>
-    ensures ok { OnOk result (gathered_in gathered.new ≡ insert_entry ns_cmp (gathered_in gathered.old) (named name.entry) (documents_in documents.entry)) }
+    ensures ok { OnOk result (gathered_in gathered.new ≡ insert_entry ns_cmp (gathered_in gathered.old) (named name.entry) (contents_in held.entry)) }
     ensures order { IsInOrder gathered.new }
 {
-    match gathered.insert(name, documents) {
+    match gathered.insert(name, held) {
         Ok(_) => Ok(()),
         Err(_) => Err(AllocError),
     }
@@ -88,9 +112,9 @@ fn put_kept<'a>(
 {
     let ns = kept.ns();
     let name = (ns.db.as_str(), ns.coll.as_str());
-    let mut documents = take_out(alloc, gathered, &name);
-    put_in(alloc, &mut documents, kept)?;
-    put_back(gathered, name, documents)
+    let mut held = take_out(alloc, gathered, &name);
+    put_in(alloc, &mut held, kept)?;
+    put_back(gathered, name, held)
 }
 
 /// The collections that these takings make.

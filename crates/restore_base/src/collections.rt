@@ -8,8 +8,9 @@ ghost use Rattle.restore_base.specs.Kept.{taking_of, takings_in};
 
 use crate::id::has_id;
 use crate::names::Names;
-use bson_value::{Bytes, NsName};
+use bson_value::{Bytes, NsName, Text};
 use demux::{DocTaker, Halt};
+use metadata_text::{MetaFault, metadata_of};
 use std::alloc::{AllocError, Global};
 use std::rc::Rc;
 
@@ -18,13 +19,15 @@ use std::rc::Rc;
 pub enum Stop {
     /// A document outside the oplog has no `_id`.
     NoId { ns: NsName },
-    /// A metadata text isn't empty, and such texts aren't read yet.
-    Unread,
+    /// A text is no metadata. The place is that of the fault in the text, or the text's length.
+    Metadata { ns: NsName, at: usize },
+    /// The metadata define an index beside the one on `_id`. Such indexes aren't built yet.
+    Indexed,
 }
 
 #[derive(Drop)]
 pub enum Kept {
-    Meta(Rc<NsName>),
+    Meta(Rc<NsName>, Text),
     Doc(Rc<NsName>, Bytes),
     End(Rc<NsName>),
 }
@@ -35,7 +38,7 @@ impl Kept {
         ensures { result.now ≡ ns_of (taking_of self.now) }
     {
         match self {
-            Kept::Meta(ns) => ns,
+            Kept::Meta(ns, _) => ns,
             Kept::Doc(ns, _) => ns,
             Kept::End(ns) => ns,
         }
@@ -125,11 +128,12 @@ impl Collections {
         Ok(Kept::Doc(name, Bytes::of(self.alloc, bytes)?))
     }
 
-    fn shared_metadata(&mut self, ns: &NsName) -> Result<Kept, AllocError>
-        ensures kept { IfOk result (λ k. taking_of k ≡ meta ns.now []) }
+    fn shared_metadata(&mut self, ns: &NsName, text: &str) -> Result<Kept, AllocError>
+        ensures kept { IfOk result (λ k. taking_of k ≡ meta ns.now text.now) }
         ensures same { self.new ≡ record self.old { names = self.new.names } }
     {
-        Ok(Kept::Meta(self.names.share(self.alloc, ns)?))
+        let name = self.names.share(self.alloc, ns)?;
+        Ok(Kept::Meta(name, Text::of(self.alloc, text)?))
     }
 
     fn shared_end(&mut self, ns: &NsName) -> Result<Kept, AllocError>
@@ -137,6 +141,20 @@ impl Collections {
         ensures same { self.new ≡ record self.old { names = self.new.names } }
     {
         Ok(Kept::End(self.names.share(self.alloc, ns)?))
+    }
+
+    // Stops at a text of this namespace that is no metadata.
+    fn stop_at_metadata(&mut self, ns: &NsName, at: usize) -> Halt
+        ensures stopped { result ≡ Halt.Stopped → self.new ≡ record self.old { stop = Some (Stop.Metadata ns.now at) } }
+        ensures starved { result ≡ Halt.NoMemory → self.new ≡ record self.old { starved = true } }
+    {
+        match ns.copy(self.alloc) {
+            Err(_) => self.starve(),
+            Ok(ns) => {
+                self.stop = Some(Stop::Metadata { ns, at });
+                Halt::Stopped
+            }
+        }
     }
 
     // Stops at a document of this namespace that has no `_id`.
@@ -160,21 +178,31 @@ impl DocTaker for Collections {
     ghost use Rattle.restore_base.specs.Taken.{takings_of, stops_of, starved_of};
 
     ghost keeps = { λ _ t. is_of_collection t };
+
     ghost kept = { λ c. Some (takings_of c) };
+
     ghost stops = { λ c. stops_of c };
+
     ghost starved = { λ c. starved_of c };
+
     ghost halted = { λ c t. same_stop c.stop (stop_at t) };
 
     fn meta(&mut self, ns: &NsName, text: &str) -> Result<(), Halt> {
         if is_oplog(ns) {
             return Ok(());
         }
-        if !text.is_empty() {
-            self.stop = Some(Stop::Unread);
-            return Err(Halt::Stopped);
+        match metadata_of(self.alloc, text) {
+            Err(MetaFault::NoMemory) => Err(self.starve()),
+            Err(MetaFault::Bad { at }) => Err(self.stop_at_metadata(ns, at)),
+            Ok((_, definitions)) => {
+                if !definitions.is_empty() {
+                    self.stop = Some(Stop::Indexed);
+                    return Err(Halt::Stopped);
+                }
+                let kept = self.shared_metadata(ns, text);
+                self.keep(kept)
+            }
         }
-        let kept = self.shared_metadata(ns);
-        self.keep(kept)
     }
 
     fn doc(&mut self, ns: &NsName, bytes: &[u8]) -> Result<(), Halt> {

@@ -5,14 +5,13 @@ ghost use Rattle.std.specs.Io.KnownBytes.{Appends};
 ghost use Rattle.tool_io.specs.Causes.{Rose, AppendsFront};
 ghost use Rattle.state_listing.specs.Listing.{document_line, collection_text, listing};
 ghost use Rattle.restore_base.specs.Base.{document_taken, collection, base};
-ghost use Rattle.restore_base.specs.Gathered.{documents_in, gathered_in, named};
+ghost use Rattle.restore_base.specs.Gathered.{documents_in, contents_in, gathered_in, named};
 ghost use Rattle.restore_base.specs.Taken.{takings_of};
 
-use crate::base::{Documents, Gathered, gather};
+use crate::base::{Documents, Gathered, Held, gather};
 use crate::collections::Collections;
 use crate::id::document;
-use json_text::Fields;
-use state_listing::{ListForm, Tree, write_document, write_head};
+use state_listing::{ListForm, write_document, write_head};
 use std::alloc::Global;
 use tool_io::{Fault, Sink};
 
@@ -56,19 +55,18 @@ fn list_documents<K: Sink>(
 fn list_collection<K: Sink>(
     alloc: Global,
     name: &(&str, &str),
-    documents: &Documents<'_>,
+    held: &Held<'_>,
     form: ListForm,
     sink: &mut K,
 ) -> Result<(), Fault>
-    ensures ok { OnOk result (Appends (K.written sink.old) (K.written sink.new) (collection_text form (collection (named name.now, documents_in documents.now)))) }
-    ensures err { OnErr result (AppendsFront (K.written sink.old) (K.written sink.new) (collection_text form (collection (named name.now, documents_in documents.now)))) }
+    ensures ok { OnOk result (Appends (K.written sink.old) (K.written sink.new) (collection_text form (collection (named name.now, contents_in held.now)))) }
+    ensures err { OnErr result (AppendsFront (K.written sink.old) (K.written sink.new) (collection_text form (collection (named name.now, contents_in held.now)))) }
     ensures later { K.faults sink.old ≤ K.faults sink.new }
     ensures cause { IsErrOf result Fault.Failed → Rose (K.faults sink.old) (K.faults sink.new) }
 {
     let (db, coll) = *name;
-    let options = Tree::Object(Fields::new(alloc));
-    match write_head(alloc, db, coll, documents.len(), &options, sink) {
-        Ok(()) => list_documents(alloc, documents, form, sink),
+    match write_head(alloc, db, coll, held.documents.len(), &held.options, sink) {
+        Ok(()) => list_documents(alloc, &held.documents, form, sink),
         Err(fault) => Err(fault),
     }
 }
@@ -84,8 +82,8 @@ fn list_collections<K: Sink>(
     ensures later { K.faults sink.old ≤ K.faults sink.new }
     ensures cause { IsErrOf result Fault.Failed → Rose (K.faults sink.old) (K.faults sink.new) }
 {
-    'collections: for (name, documents) in gathered {
-        match list_collection(alloc, name, documents, form, sink) {
+    'collections: for (name, held) in gathered {
+        match list_collection(alloc, name, held, form, sink) {
             Ok(()) => {}
             Err(fault) => return Err(fault),
         }

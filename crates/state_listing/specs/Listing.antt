@@ -6,7 +6,7 @@ use Rattle.hex.specs.Hex.{encode_lower}
 use Rattle.bson_value.specs.Namespace.{dot}
 use Rattle.bson_value.specs.declared.namespace.NsName.{NsName}
 use Rattle.bson_value.specs.declared.value.Value.{Value, Object}
-use Rattle.bson_value.specs.Alike.{by_name, ordered, ordered_fields}
+use Rattle.bson_value.specs.Alike.{by_name, ordered_fields}
 use Rattle.bson_value.specs.Spelling.{document_text}
 use Rattle.json_text.specs.declared.tree.Tree.{Tree}
 use Rattle.json_text.specs.Print.{quoted, text_of}

@@ -1,9 +1,8 @@
 -- What a call says, by the number of its status.
 use Rattle.std.proofs.Common.{ℕ, ◌≡◌, List, inl, inr, refl, sym, ◌∙◌, ap, subst}
-use Rattle.std.specs.Prelude.{Option, None, Some, Ok, Err, ◌⊎◌}
-use Rattle.state_listing.specs.Listing.{State}
+use Rattle.std.specs.Prelude.{Option, None, Some, Ok, Err}
 use Rattle.restore_base.specs.declared.collections.Stop.TheVariants as reasons
-use Rattle.restore_base.specs.Outcome.{Outcome, restores, refuses, stops, IsOutcome, OnInput}
+use Rattle.restore_base.specs.Outcome.{Outcome, restores, stops, IsOutcome, OnInput}
 use Rattle.restore_base.proofs.Outcomes.{outcome_once}
 use Rattle.tools_cli.specs.declared.words.Verb.{Verb}
 use Rattle.tools_cli.specs.declared.words.Verb.TheVariants as verbs
@@ -13,9 +12,9 @@ use Rattle.tools_cli.specs.declared.status.ArchiveFault.TheVariants as refusals
 use Rattle.tools_cli.specs.declared.status.Status.{Status}
 use Rattle.tools_cli.specs.declared.status.Status.TheVariants as is
 use Rattle.tools_cli.specs.Words.{Meaning}
-use Rattle.tools_cli.specs.Ends.{Turn, Failed}
+use Rattle.tools_cli.specs.Ends.{Turn}
 use Rattle.tools_cli.specs.Lines.{code_of}
-use Rattle.tools_cli.specs.Answers.{OfCommand, Restores, HasOutcome, outcome_of, ReadBy, IsShown, Shows, Says, Told, Reports, RunsOut, Answers, IsDue, IsDueBy, Gives, outcome_code}
+use Rattle.tools_cli.specs.Answers.{OfCommand, Restores, HasOutcome, outcome_of, IsShown, Says, Told, Reports, RunsOut, Answers, IsDue, IsDueBy, Gives, outcome_code}
 use Rattle.tools_cli.proofs.Telling.{told_front}
 
 -- The status that is due.
@@ -50,6 +49,7 @@ due_usage m at i out e n d = let P : Meaning → Type 0 = λ k. IsDue k i.before
 code_of_fault : (f : ArchiveFault) → outcome_code (outcome_of f) ≡ 3
 code_of_fault (refusals.Format f) = refl
 code_of_fault (refusals.NoId ns) = refl
+code_of_fault (refusals.Metadata ns at) = refl
 
 -- The whole call.
 
@@ -129,7 +129,7 @@ told_answers m is.Unbuilt i o r h t = record {
   write_fault = λ e. absurd cc;
   no_memory = λ e. absurd cc;
   unbuilt = λ _. (h.0, h.1, h.2, t);
-  due = by_restore m (stops reasons.Unread) 12 i o h.0 h.1 refl;
+  due = by_restore m (stops reasons.Indexed) 12 i o h.0 h.1 refl;
 }
 
 out_answers : (m : Meaning) (s : Status) (i o r : Turn) → Says m s i o → RunsOut s r → Answers m 11 i o r

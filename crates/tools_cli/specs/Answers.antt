@@ -1,5 +1,5 @@
 -- What each status says of the words and of the ends that were lent.
-use Rattle.std.specs.Prelude.{◌≡◌, ◌⊎◌, ℕ, List, [], Option, Some, None, Ok, Err}
+use Rattle.std.specs.Prelude.{◌≡◌, ◌⊎◌, ℕ, List, [], Option, Some, Ok, Err}
 use Rattle.state_listing.specs.Listing.{State, listing}
 use Rattle.restore_base.specs.declared.collections.Stop.{Stop}
 use Rattle.restore_base.specs.declared.collections.Stop.TheVariants as reasons
@@ -33,6 +33,7 @@ HasOutcome input o = OnInput input.before.bytes (λ all. IsOutcome all o)
 abbrev pub outcome_of : ArchiveFault → Outcome
 outcome_of (refusals.Format f) = refuses f
 outcome_of (refusals.NoId ns) = stops (reasons.NoId ns)
+outcome_of (refusals.Metadata ns at) = stops (reasons.Metadata ns at)
 
 -- What was read: the whole input, or nothing.
 
@@ -63,7 +64,7 @@ Says m (is.BadArchive f) input output = Restores m × HasOutcome input (outcome_
 Says m is.ReadFault input output = Restores m × Failed input × Same output
 Says m is.WriteFault input output = Failed output × ShowsFront m input output
 Says m is.NoMemory input output = Same output ⊎ ShowsFront m input output
-Says m is.Unbuilt input output = Restores m × HasOutcome input (stops reasons.Unread) × Same output
+Says m is.Unbuilt input output = Restores m × HasOutcome input (stops reasons.Indexed) × Same output
 
 -- a text of the command's own was written
 abbrev pub Shown : List ℕ → Status → Turn → Type 0
@@ -96,7 +97,8 @@ Told status final report = ((final ≡ status) × Reports status report) ⊎ ((f
 
 abbrev pub stop_code : Stop → ℕ
 stop_code (reasons.NoId ns) = 3
-stop_code reasons.Unread = 12
+stop_code (reasons.Metadata ns at) = 3
+stop_code reasons.Indexed = 12
 
 abbrev pub outcome_code : Outcome → ℕ
 outcome_code (restores s) = 0
@@ -127,5 +129,5 @@ pub record Answers (m : Meaning) (code : ℕ) (input output report : Turn) : Typ
   pub write_fault : code ≡ 10 → Failed output × ShowsFront m input output × Tells report (line_of is.WriteFault)
   -- the line is the one that would have been told, or that of this status
   pub no_memory : code ≡ 11 → (s : Status) × Says m s input output × RunsOut s report
-  pub unbuilt : code ≡ 12 → Restores m × HasOutcome input (stops reasons.Unread) × Same output × Tells report (line_of is.Unbuilt)
+  pub unbuilt : code ≡ 12 → Restores m × HasOutcome input (stops reasons.Indexed) × Same output × Tells report (line_of is.Unbuilt)
   pub due : (n : ℕ) → IsDue m input.before.bytes n → Gives code input output n

@@ -1,5 +1,5 @@
 -- The number of each status, and its line on the report.
-use Rattle.std.specs.Prelude.{ℕ, List, [], ◌∷◌, ◌++◌, reverse, codes}
+use Rattle.std.specs.Prelude.{ℕ, List, [], ◌∷◌, ◌++◌, codes}
 use Rattle.std.specs.Fmt.{decimal}
 use Rattle.std.specs.Int.{w64, to_be_bytes}
 use Rattle.hex.specs.Hex.{encode_lower}
@@ -65,6 +65,7 @@ format_text _ = []
 abbrev pub refusal_text : ArchiveFault → List ℕ
 refusal_text (refusals.Format f) = format_text f
 refusal_text (refusals.NoId ns) = codes "no _id in " ++ quoted_name ns
+refusal_text (refusals.Metadata ns at) = numbered (codes "bad metadata of " ++ quoted_name ns ++ codes " at ") at
 
 abbrev pub usage_line : ℕ → List ℕ
 usage_line at = line (numbered (codes "usage: word ") at)

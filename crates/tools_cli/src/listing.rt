@@ -31,7 +31,10 @@ pub fn list_archive<S: Source, K: Sink>(
         Err(RestoreFault::Stopped(Stop::NoId { ns })) => Status::BadArchive(ArchiveFault::NoId {
             ns,
         }),
-        Err(RestoreFault::Stopped(Stop::Unread)) => Status::Unbuilt,
+        Err(RestoreFault::Stopped(Stop::Metadata { ns, at })) => {
+            Status::BadArchive(ArchiveFault::Metadata { ns, at })
+        }
+        Err(RestoreFault::Stopped(Stop::Indexed)) => Status::Unbuilt,
         Err(RestoreFault::ReadFault) => Status::ReadFault,
         Err(RestoreFault::NoMemory) => Status::NoMemory,
     }

@@ -114,12 +114,20 @@ fn no_id_text(alloc: Global, ns: &NsName) -> Result<String, AllocError>
     format!(in alloc; "no _id in {name}")
 }
 
+fn metadata_text(alloc: Global, ns: &NsName, at: usize) -> Result<String, AllocError>
+    ensures { IfOk result (λ s. string_bytes s ≡ refusal_text (ArchiveFault.Metadata ns.now at)) }
+{
+    let name = quoted(alloc, ns)?;
+    format!(in alloc; "bad metadata of {name} at {at}")
+}
+
 fn refusal_text(alloc: Global, fault: &ArchiveFault) -> Result<String, AllocError>
     ensures { IfOk result (λ s. string_bytes s ≡ refusal_text fault.now) }
 {
     match fault {
         ArchiveFault::Format(fault) => format_text(alloc, fault),
         ArchiveFault::NoId { ns } => no_id_text(alloc, ns),
+        ArchiveFault::Metadata { ns, at } => metadata_text(alloc, ns, *at),
     }
 }
 

@@ -11,6 +11,8 @@ pub enum ArchiveFault {
     Format(DemuxFault),
     /// A document outside the oplog has no `_id`.
     NoId { ns: NsName },
+    /// A text is no metadata. The place is that of the fault in the text, or the text's length.
+    Metadata { ns: NsName, at: usize },
 }
 
 /// How a call ended.
@@ -23,7 +25,7 @@ pub enum Status {
     ReadFault,
     WriteFault,
     NoMemory,
-    /// The input has a metadata text that isn't empty, and these aren't read yet.
+    /// The metadata define an index beside the one on `_id`, and such indexes aren't built yet.
     Unbuilt,
 }
 

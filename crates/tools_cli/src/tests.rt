@@ -58,8 +58,17 @@ fn digits_of(word: &str) -> &str {
         "empty-text" => {
             "4f0000000264620002000000650002636f6c6c656374696f6e00020000006600026d657461646174610001000000001073697a6500000000000274797065000b000000636f6c6c656374696f6e0000"
         }
-        "text" => {
-            "5d0000000264620002000000650002636f6c6c656374696f6e00020000006600026d65746164617461000f0000007b226f7074696f6e73223a7b7d7d001073697a6500000000000274797065000b000000636f6c6c656374696f6e0000"
+        "options" => {
+            "730000000264620002000000650002636f6c6c656374696f6e00020000006600026d6574616461746100250000007b226f7074696f6e73223a7b22636170706564223a747275652c2273697a65223a357d7d001073697a6500000000000274797065000b000000636f6c6c656374696f6e0000"
+        }
+        "index" => {
+            "7d0000000264620002000000650002636f6c6c656374696f6e00020000006600026d65746164617461002f0000007b22696e6465786573223a5b7b2276223a322c226b6579223a7b2278223a317d2c226e616d65223a2269227d5d7d001073697a6500000000000274797065000b000000636f6c6c656374696f6e0000"
+        }
+        "id-index" => {
+            "da0000000264620002000000650002636f6c6c656374696f6e00020000006600026d65746164617461008c0000007b226f7074696f6e73223a7b7d2c22696e6465786573223a5b7b2276223a7b22246e756d626572496e74223a2232227d2c226b6579223a7b225f6964223a7b22246e756d626572496e74223a2231227d7d2c226e616d65223a225f69645f227d5d2c22636f6c6c656374696f6e4e616d65223a2266222c2274797065223a22636f6c6c656374696f6e227d001073697a6500000000000274797065000b000000636f6c6c656374696f6e0000"
+        }
+        "array" => {
+            "510000000264620002000000650002636f6c6c656374696f6e00020000006600026d6574616461746100030000005b5d001073697a6500000000000274797065000b000000636f6c6c656374696f6e0000"
         }
         _ => word,
     }
@@ -102,7 +111,7 @@ const HEX: [&str; 3] = ["restore", "--archive", "--form=hex"];
 
 const JSON: [&str; 2] = ["restore", "--archive"];
 
-const ROWS: [Row; 22] = [
+const ROWS: [Row; 25] = [
     Row {
         shows: "a prelude alone",
         words: &HEX,
@@ -176,12 +185,36 @@ const ROWS: [Row; 22] = [
         report: "",
     },
     Row {
-        shows: "a metadata text that is not empty",
-        words: &HEX,
-        input: "magic header text stop",
+        shows: "options with their whole numbers as wrappers",
+        words: &JSON,
+        input: "magic header options stop",
+        status: 0,
+        output: "collection \"e.f\" 0\noptions {\"capped\":true,\"size\":{\"$numberInt\":\"5\"}}\n",
+        report: "",
+    },
+    Row {
+        shows: "the index on _id is passed over",
+        words: &JSON,
+        input: "magic header id-index stop",
+        status: 0,
+        output: "collection \"e.f\" 0\noptions {}\n",
+        report: "",
+    },
+    Row {
+        shows: "another index",
+        words: &JSON,
+        input: "magic header index stop",
         status: 12,
         output: "",
         report: "unbuilt\n",
+    },
+    Row {
+        shows: "a text that is no metadata",
+        words: &JSON,
+        input: "magic header array stop",
+        status: 3,
+        output: "",
+        report: "bad archive: bad metadata of \"e.f\" at 2\n",
     },
     Row {
         shows: "a document without an _id",

@@ -15,6 +15,6 @@ pub loop-kept-preserved : goal.loop-kept-preserved
 loop-kept-preserved c = record {
   order = c.in_ok-put_kept.ensures.order;
   is =
-    c.in_ok-put_kept.ensures.ok ∙ (ap (λ cs. put_taking cs (taking_of c.kept-item.result)) c.loop-kept.invariant.is
-    ∙ sym (collections_more c.args.takings.now c.loop-kept.kept-index c.kept-item.result c.loop-kept-test.true c.kept-item.is));
+      c.in_ok-put_kept.ensures.ok ∙ (ap (λ cs. put_taking cs (taking_of c.kept-item.result)) c.loop-kept.invariant.is
+      ∙ sym (collections_more c.args.takings.now c.loop-kept.kept-index c.kept-item.result c.loop-kept-test.true c.kept-item.is));
 }

@@ -2,7 +2,7 @@ use Rattle.restore_base.proofs.Maps.{collection_put, in_order}
 use Rattle.restore_base.proofs.base.put_back.Goals as goal
 
 pub returns-in-Ok-clause-ok : goal.returns-in-Ok-clause-ok
-returns-in-Ok-clause-ok c = collection_put c.args.gathered.now c.insert.new.self c.args.name c.args.documents c.in-Ok.ensures.entries
+returns-in-Ok-clause-ok c = collection_put c.args.gathered.now c.insert.new.self c.args.name c.args.held c.in-Ok.ensures.entries
 
 pub returns-in-Ok-clause-order : goal.returns-in-Ok-clause-order
 returns-in-Ok-clause-order c = in_order c.insert.new.self c.in-Ok.ensures.ordered

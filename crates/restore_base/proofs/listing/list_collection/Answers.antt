@@ -1,13 +1,10 @@
-use Rattle.std.proofs.Common.{◌≡◌, ℕ, List, length, ap, sym, subst, ◌∙◌}
+use Rattle.std.proofs.Common.{◌≡◌, ℕ, List, length, sym, subst, ◌∙◌}
 use Rattle.std.proofs.lemmas.List.{length-map}
 use Rattle.std.proofs.KnownBytes.{Appends-trans}
-use Rattle.std.specs.List.{flat_map}
 use Rattle.std.specs.Io.KnownBytes.{Appends}
 use Rattle.std.specs.Prelude.{OnOk, OnErr}
 use Rattle.tool_io.specs.Causes.{AppendsFront}
-use Rattle.json_text.specs.declared.tree.Tree.TheVariants as trees
-use Rattle.state_listing.specs.Listing.{head_text, document_line}
-use Rattle.restore_base.specs.Gathered.{documents_in, document_entry, named}
+use Rattle.restore_base.specs.Gathered.{contents_in, document_entry, named}
 use Rattle.restore_base.proofs.Maps.{on_ok, on_err}
 use Rattle.restore_base.proofs.Fronts.{front_behind, front_within}
 use Rattle.restore_base.proofs.Texts.{collection_text_is}
@@ -17,9 +14,9 @@ pub returns-in-Ok-clause-ok : goal.returns-in-Ok-clause-ok
 returns-in-Ok-clause-ok g c =
     let before = g.K.Sink.written c.args.sink.now in
     let after = g.K.Sink.written c.list_documents.new.sink in
-    let ds = documents_in c.args.documents.now in
-    let count : c.len.result ≡ length ds = c.len.ensures.len ∙ sym (length-map c.args.documents.now.entries document_entry) in
-    let is = collection_text_is c.args.form (named c.args.name.now) ds c.len.result (trees.Object c.new.result) count (ap trees.Object c.new.ensures) in
+    let held = contents_in c.args.held.now in
+    let count : c.len.result ≡ length held.documents = c.len.ensures.len ∙ sym (length-map c.args.held.now.documents.entries document_entry) in
+    let is = collection_text_is c.args.form (named c.args.name.now) held c.len.result count in
     subst (λ (t : List ℕ). OnOk c.list_documents.result (Appends before after t)) (sym is)
     (on_ok c.list_documents.result (λ w. Appends-trans before (g.K.Sink.written c.write_head.new.sink) after _ _ c.in-Ok.ensures.ok w) c.list_documents.ensures.ok)
 
@@ -27,17 +24,17 @@ pub returns-in-Ok-clause-err : goal.returns-in-Ok-clause-err
 returns-in-Ok-clause-err g c =
     let before = g.K.Sink.written c.args.sink.now in
     let after = g.K.Sink.written c.list_documents.new.sink in
-    let ds = documents_in c.args.documents.now in
-    let count : c.len.result ≡ length ds = c.len.ensures.len ∙ sym (length-map c.args.documents.now.entries document_entry) in
-    let is = collection_text_is c.args.form (named c.args.name.now) ds c.len.result (trees.Object c.new.result) count (ap trees.Object c.new.ensures) in
+    let held = contents_in c.args.held.now in
+    let count : c.len.result ≡ length held.documents = c.len.ensures.len ∙ sym (length-map c.args.held.now.documents.entries document_entry) in
+    let is = collection_text_is c.args.form (named c.args.name.now) held c.len.result count in
     subst (λ (t : List ℕ). OnErr c.list_documents.result (AppendsFront before after t)) (sym is)
     (on_err c.list_documents.result (λ w. front_behind before (g.K.Sink.written c.write_head.new.sink) after _ _ c.in-Ok.ensures.ok w) c.list_documents.ensures.err)
 
-pub returns-clause-err : goal.returns-clause-err
-returns-clause-err g c =
+pub returns-in-Err-clause-err : goal.returns-in-Err-clause-err
+returns-in-Err-clause-err g c =
     let before = g.K.Sink.written c.args.sink.now in
     let after = g.K.Sink.written c.write_head.new.sink in
-    let ds = documents_in c.args.documents.now in
-    let count : c.len.result ≡ length ds = c.len.ensures.len ∙ sym (length-map c.args.documents.now.entries document_entry) in
-    let is = collection_text_is c.args.form (named c.args.name.now) ds c.len.result (trees.Object c.new.result) count (ap trees.Object c.new.ensures) in
+    let held = contents_in c.args.held.now in
+    let count : c.len.result ≡ length held.documents = c.len.ensures.len ∙ sym (length-map c.args.held.now.documents.entries document_entry) in
+    let is = collection_text_is c.args.form (named c.args.name.now) held c.len.result count in
     subst (λ (t : List ℕ). AppendsFront before after t) (sym is) (front_within before after _ _ c.in-Err.ensures.err)

@@ -1,7 +1,7 @@
-use Rattle.std.proofs.Common.{◌≤◌, subst, arith}
+use Rattle.std.proofs.Common.{subst, arith}
 use Rattle.state_listing.specs.Listing.{collection_text}
 use Rattle.restore_base.specs.Base.{collection}
-use Rattle.restore_base.specs.Gathered.{named, documents_in}
+use Rattle.restore_base.specs.Gathered.{named, contents_in}
 use Rattle.restore_base.proofs.Fronts.{Left, left_on, left_stop}
 use Rattle.restore_base.proofs.Texts.{collections_text}
 use Rattle.restore_base.proofs.listing.list_collections.Goals as goal
@@ -12,10 +12,10 @@ collections-preserved g c =
     let now = g.K.Sink.written c.collections.sink in
     let form = c.args.form in
     let text = collections_text form c.args.gathered.now.entries in
-    let piece = collection_text form (collection (named c.in-Some.name.now, documents_in c.in-Some.documents.now)) in
+    let piece = collection_text form (collection (named c.in-Some.name.now, contents_in c.in-Some.held.now)) in
     record {
       left = left_on before now (g.K.Sink.written c.list_collection.new.sink) text piece (collections_text form c.next.new.self)
-      (subst (λ es. Left before now text (collections_text form es)) c.in-Some.ensures.steps c.collections.invariant.left) c.in-Ok.ensures.ok;
+          (subst (λ es. Left before now text (collections_text form es)) c.in-Some.ensures.steps c.collections.invariant.left) c.in-Ok.ensures.ok;
       later = omega (arith, c.collections.invariant.later, c.list_collection.ensures.later);
     }
 
@@ -25,6 +25,6 @@ returns-in-Err-clause-err g c =
     let now = g.K.Sink.written c.collections.sink in
     let form = c.args.form in
     let text = collections_text form c.args.gathered.now.entries in
-    let piece = collection_text form (collection (named c.in-Some.name.now, documents_in c.in-Some.documents.now)) in
+    let piece = collection_text form (collection (named c.in-Some.name.now, contents_in c.in-Some.held.now)) in
     left_stop before now (g.K.Sink.written c.list_collection.new.sink) text piece (collections_text form c.next.new.self)
     (subst (λ es. Left before now text (collections_text form es)) c.in-Some.ensures.steps c.collections.invariant.left) c.in-Err.ensures.err

@@ -1,4 +1,4 @@
-use Rattle.std.proofs.Common.{◌≤◌, subst, arith}
+use Rattle.std.proofs.Common.{subst, arith}
 use Rattle.state_listing.specs.Listing.{document_line}
 use Rattle.restore_base.specs.Base.{document_taken}
 use Rattle.restore_base.proofs.Fronts.{Left, left_on, left_stop}
@@ -14,7 +14,7 @@ documents-preserved g c =
     let piece = document_line form (document_taken c.in-Some.bytes.now.now) in
     record {
       left = left_on before now (g.K.Sink.written c.list_document.new.sink) text piece (documents_text form c.next.new.self)
-      (subst (λ es. Left before now text (documents_text form es)) c.in-Some.ensures.steps c.documents.invariant.left) c.in-Ok.ensures.ok;
+          (subst (λ es. Left before now text (documents_text form es)) c.in-Some.ensures.steps c.documents.invariant.left) c.in-Ok.ensures.ok;
       later = omega (arith, c.documents.invariant.later, c.list_document.ensures.later);
     }
 

@@ -1,7 +1,5 @@
-use Rattle.std.proofs.Common.{◌≡◌, Bool, subst, sym}
-use Rattle.archive_format.specs.declared.fault.DemuxFault.{DemuxFault}
+use Rattle.std.proofs.Common.{◌≡◌, Bool}
 use Rattle.archive_format.specs.Archive.{Taking}
-use Rattle.demux.specs.Told.{Fault_told}
 use Rattle.restore_base.specs.Base.{same_stop, stop_at}
 use Rattle.restore_base.specs.declared.reading.RestoreFault.TheVariants as reasons
 use Rattle.restore_base.specs.Taken.{takings_of}

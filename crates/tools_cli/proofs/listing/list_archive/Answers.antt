@@ -1,4 +1,4 @@
-use Rattle.std.proofs.Common.{◌≡◌, ℕ, List, Ok, inr, refl, sym, subst}
+use Rattle.std.proofs.Common.{◌≡◌, ℕ, List, inr, refl, sym, subst}
 use Rattle.std.specs.Prelude.{Option, Some, None, []}
 use Rattle.tool_io.specs.Causes.{AppendsFront}
 use Rattle.state_listing.specs.declared.lines.ListForm.{ListForm}
