@@ -3,3 +3,6 @@ pub mod Loop
 pub mod Skips
 pub mod Texts
 pub mod Printed
+pub mod Numerals
+pub mod Strings
+pub mod Spelled

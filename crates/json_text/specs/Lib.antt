@@ -1,4 +1,5 @@
 pub mod formers
 pub mod Reading
+pub mod Grammar
 pub mod Pieces
 pub mod Print
