@@ -6,3 +6,6 @@ pub mod Printed
 pub mod Numerals
 pub mod Strings
 pub mod Spelled
+pub mod Found
+pub mod FoundStrings
+pub mod FoundValues

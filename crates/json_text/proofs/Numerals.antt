@@ -182,7 +182,7 @@ number_text : (t : List ℕ) → IsNumber t → is_utf8 t ≡ true
 number_text t (m, w, f, x, hm, hw, hf, hx, e) =
     is_utf8-from_IsUtf8 t (IsUtf8-from_ascii t (rw e (IsAscii-append m (w ++ (f ++ x)) (minus_ascii m hm) (IsAscii-append w (f ++ x) (whole_ascii w hw) (IsAscii-append f x (fraction_ascii f hf) (exponent_ascii x hx))))))
 
-taken : (t bs : List ℕ) → take (length (t ++ bs) - length bs) (t ++ bs) ≡ t
+pub taken : (t bs : List ℕ) → take (length (t ++ bs) - length bs) (t ++ bs) ≡ t
 taken t bs =
     let n : length (t ++ bs) - length bs ≡ length t = omega (arith, length-append t bs) in
     rw n (take-append-le (length t) t bs (omega arith) ∙ take_all (length t) t (omega arith))

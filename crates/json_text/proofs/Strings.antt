@@ -13,7 +13,7 @@ hex_case b v false true z hx hy hz e = let p = and_parts (ltb 64 b) (ltb b 71) h
 hex_case b v false false true hx hy hz e = let p = and_parts (ltb 96 b) (ltb b 103) hz in let q : b - 87 ≡ v = cc in omega (arith, ltb-true b 103 p.1, q)
 hex_case b v false false false hx hy hz e = absurd cc
 
-hex_small : (b v : ℕ) → hex_value b ≡ Some v → v ≤ 15
+pub hex_small : (b v : ℕ) → hex_value b ≡ Some v → v ≤ 15
 hex_small b v h = hex_case b v (is_digit b) (ltb 64 b && ltb b 71) (ltb 96 b && ltb b 103) refl refl refl h
 
 within_is : (start low high v : ℕ) (bs : List ℕ) → low ≤ v → v ≤ high → within start low high (Some v) bs ≡ Ok (v, bs)
