@@ -192,7 +192,7 @@ behind_escape done bs all rest m after (s, e, ext) (s', t', r, is, here) = (
   ap (λ (l : List ℕ). 92 ∷ l) (e ∙ ap (λ (l : List ℕ). s ++ l) here ∙ sym (append_assoc s s' (34 ∷ rest))),
 )
 
-differs : (b n : ℕ) → eqb b n ≡ false → b ≢ n
+pub differs : (b n : ℕ) → eqb b n ≡ false → b ≢ n
 differs b n e p = let q : eqb b n ≡ true = eq-eqb b n p in let t : true ≡ false = sym q ∙ e in absurd cc
 
 abbrev on : ℕ → ℕ → ℕ → List ℕ → (List ℕ × Truth) × List ℕ → Result (List ℕ × List ℕ) ℕ

@@ -9,3 +9,4 @@ pub mod Spelled
 pub mod Found
 pub mod FoundStrings
 pub mod FoundValues
+pub mod Reprinted
