@@ -3,3 +3,10 @@ pub mod Loop
 pub mod Skips
 pub mod Texts
 pub mod Printed
+pub mod Numerals
+pub mod Strings
+pub mod Spelled
+pub mod Found
+pub mod FoundStrings
+pub mod FoundValues
+pub mod Reprinted

@@ -1,4 +1,6 @@
 pub mod formers
 pub mod Reading
+pub mod Grammar
 pub mod Pieces
 pub mod Print
+pub mod Printing

@@ -3,6 +3,7 @@
 
 mod copy;
 mod fault;
+mod laws;
 mod members;
 mod printing;
 mod reading;
@@ -13,6 +14,7 @@ mod tree;
 
 pub use containers::{List as JList, Text as JText};
 pub use fault::JsonFault;
+pub use laws::{json_is_read, print_is_json, print_is_read, read_is_json};
 pub use members::Members;
 pub use printing::print;
 pub use reading::parse;

@@ -2,11 +2,13 @@
 #![tactic(auto)]
 
 mod fault;
+mod laws;
 mod reading;
 #[cfg(test)]
 mod tests;
 mod writing;
 
 pub use fault::MetaFault;
+pub use laws::written_is_read;
 pub use reading::metadata_of;
 pub use writing::metadata_text;

@@ -1,0 +1,45 @@
+-- The law that a metadata text means the options and definitions that it was written of.
+use Rattle.std.specs.Prelude.{◌≡◌, ℕ, ◌≤◌, true, List, [], ◌∷◌, Some, Ok, codes}
+use Rattle.std.specs.Ordering.{nat_cmp}
+use Rattle.std.specs.declared.cmp.Ordering.TheVariants.{Greater}
+use Rattle.std.specs.Cmp.Lexicographic.{slice_cmp}
+use Rattle.std.specs.List.{AllByRecursion}
+use Rattle.std.specs.Str.{is_utf8}
+use Rattle.json_text.specs.declared.tree.Tree.{Tree}
+use Rattle.json_text.specs.Printing.{AllKept, levels_of}
+use Rattle.json_text.specs.Print.{text_of}
+use Rattle.extjson.specs.Plain.{wrapped_numbers}
+use Rattle.metadata_text.specs.Metadata.{Named, is_object, named, metadata_tree, metadata_of}
+
+-- each of these comes behind this name
+abbrev pub AllBehind : List ℕ → Named → Type 0
+AllBehind n es = AllByRecursion (λ e. slice_cmp nat_cmp e.0 n ≡ Greater) es
+
+-- the names rise in the order of their bytes
+abbrev pub AreRising : Named → Type 0
+AreRising [] = Unit {0}
+AreRising (e ∷ es) = AllBehind e.0 es × AreRising es
+
+-- none is the index on `_id`
+abbrev pub AreOthers : Named → Type 0
+AreOthers es = AllByRecursion (λ e. e.0 ≡ codes "_id_" → ⊥) es
+
+-- a tree of at most 250 levels, as `parse` gives it
+pub record IsShallow (t : Tree) : Type 0 where
+  pub kept : AllKept t
+  pub levels : levels_of t ≤ 250
+
+-- options that are an object without plain whole numbers, and definitions with names that rise and aren't `_id_`
+pub record AreWritable (coll : List ℕ) (options : Tree) (defs : List Tree) : Type 0 where
+  pub text : is_utf8 coll ≡ true
+  pub object : is_object options ≡ true
+  pub wrapped : wrapped_numbers options ≡ options
+  pub shallow : IsShallow options
+  pub shallow_defs : AllByRecursion IsShallow defs
+  pub names : Named
+  pub named_so : named defs ≡ Some names
+  pub rising : AreRising names
+  pub others : AreOthers names
+
+abbrev pub WrittenIsRead : Type 0
+WrittenIsRead = (coll : List ℕ) (options : Tree) (defs : List Tree) → AreWritable coll options defs → metadata_of (text_of (metadata_tree coll options defs)) ≡ Ok (options, defs)
