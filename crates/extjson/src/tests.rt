@@ -218,7 +218,10 @@ fn plain_whole_numbers_become_wrappers(rt: HostRuntime) -> Result<(), Fail> {
     for line in WRAPPED.lines().skip(1) {
         let (text, wrapped) = line.split_once(' ').ok_or("no text")?;
         let tree = wrap_numbers(rt.alloc(), &parse(rt.alloc(), text)?)?;
-        assert_eq!(rt; print(rt.alloc(), &tree)?.as_str().as_bytes(), wrapped.as_bytes());
+        assert_eq!(rt;
+            print(rt.alloc(), &tree)?.as_str().as_bytes(),
+            wrapped.as_bytes()
+        );
     }
     Ok(())
 }

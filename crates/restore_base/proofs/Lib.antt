@@ -2,3 +2,4 @@ pub mod Outcomes
 mod Maps
 mod Fronts
 mod Texts
+mod Sound

@@ -1,9 +1,10 @@
 //! The collections that the kept takings make, by name.
-ghost use Rattle.std.specs.Prelude.{◌≡◌, OnOk, IfOk};
+ghost use Rattle.std.specs.Prelude.{◌≡◌, OnOk, IfOk, None, true};
 ghost use Rattle.std.specs.Map.{remove_entry};
 ghost use Rattle.std.specs.BTreeMap.{insert_entry, is_at};
+ghost use Rattle.archive_format.specs.Archive.{fault_in};
 ghost use Rattle.restore_base.specs.Base.{put_document, document_taken, options_taken, no_contents, put_in, ns_cmp, contents_at, put_taking, collections_of};
-ghost use Rattle.restore_base.specs.Kept.{taking_of, takings_in};
+ghost use Rattle.restore_base.specs.Kept.{taking_of, takings_in, is_sound, are_sound};
 ghost use Rattle.restore_base.specs.Gathered.{documents_in, contents_in, named, gathered_in, IsInOrder};
 
 use crate::collections::Kept;
@@ -32,6 +33,7 @@ fn put_document<'a>(
     documents: &mut Documents<'a>,
     bytes: &'a [u8],
 ) -> Result<(), AllocError>
+    requires { fault_in bytes.now ≡ None }
     ensures { OnOk result (documents_in documents.new ≡ put_document (document_taken bytes.now) (documents_in documents.old)) }
 {
     let key = id_key(alloc, bytes)?;
@@ -63,6 +65,7 @@ fn nothing<'a>(alloc: Global) -> Held<'a>
 
 // What a taking makes of its collection.
 fn put_in<'a>(alloc: Global, held: &mut Held<'a>, kept: &'a Kept) -> Result<(), AllocError>
+    requires { is_sound kept.now ≡ true }
     ensures { OnOk result (contents_in held.new ≡ put_in (taking_of kept.now) (contents_in held.old)) }
 {
     match kept {
@@ -106,7 +109,8 @@ fn put_kept<'a>(
     gathered: &mut Gathered<'a>,
     kept: &'a Kept,
 ) -> Result<(), AllocError>
-    requires { IsInOrder gathered.old }
+    requires order { IsInOrder gathered.old }
+    requires sound { is_sound kept.now ≡ true }
     ensures ok { OnOk result (gathered_in gathered.new ≡ put_taking (gathered_in gathered.old) (taking_of kept.now)) }
     ensures order { OnOk result (IsInOrder gathered.new) }
 {
@@ -119,6 +123,7 @@ fn put_kept<'a>(
 
 /// The collections that these takings make.
 pub fn gather<'a>(alloc: Global, takings: &'a [Kept]) -> Result<Gathered<'a>, AllocError>
+    requires { are_sound takings.now ≡ true }
     ensures { IfOk result (λ g. gathered_in g ≡ collections_of (takings_in takings.now)) }
 {
     let mut gathered = BTreeMap::new(alloc);

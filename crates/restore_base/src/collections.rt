@@ -1,10 +1,10 @@
 //! The takings of an archive that make collections.
-ghost use Rattle.std.specs.Prelude.{◌≡◌, ◌++◌, ◌∷◌, [], OnOk, OnErr, IfOk, IfErr, IsOk, Some, None, true};
-ghost use Rattle.archive_format.specs.Archive.{meta, doc, end};
+ghost use Rattle.std.specs.Prelude.{◌≡◌, ◌++◌, ◌∷◌, [], OnOk, OnErr, IfOk, IfErr, IsOk, IsTrue, Some, None, true};
+ghost use Rattle.archive_format.specs.Archive.{meta, doc, end, fault_in};
 ghost use Rattle.archive_format.specs.Shapes.{is_oplog};
 ghost use Rattle.std.specs.Result.{ForOk};
 ghost use Rattle.restore_base.specs.Base.{first_stop, stop_at, ns_of};
-ghost use Rattle.restore_base.specs.Kept.{taking_of, takings_in};
+ghost use Rattle.restore_base.specs.Kept.{taking_of, takings_in, is_sound, are_sound};
 
 use crate::id::has_id;
 use crate::names::Names;
@@ -54,6 +54,7 @@ pub struct Collections {
     stop: Option<Stop>,
     starved: bool,
     ghost taken: { first_stop (takings_in takings.items) ≡ None },
+    ghost sound: { IsTrue (are_sound takings.items) },
 }
 
 fn is_oplog(ns: &NsName) -> bool
@@ -81,7 +82,8 @@ impl Collections {
 
     /// What was taken, in order.
     pub fn takings(&self) -> &[Kept]
-        ensures { takings_in result.now ≡ takings_of self.now }
+        ensures takings { takings_in result.now ≡ takings_of self.now }
+        ensures sound { are_sound result.now ≡ true }
     {
         self.takings.as_slice()
     }
@@ -103,7 +105,8 @@ impl Collections {
 
     // The last taking, if there was memory for it.
     fn keep(&mut self, kept: Result<Kept, AllocError>) -> Result<(), Halt>
-        requires { ForOk kept (λ k. stop_at (taking_of k) ≡ None) }
+        requires taken { ForOk kept (λ k. stop_at (taking_of k) ≡ None) }
+        requires sound { ForOk kept (λ k. is_sound k ≡ true) }
         ensures ok { OnOk result (IfOk kept (λ k. takings_of self.new ≡ takings_of self.old ++ taking_of k ∷ [])) }
         ensures kept { OnOk result (IsOk kept) }
         ensures err { OnErr result (takings_of self.new ≡ takings_of self.old) }
@@ -121,7 +124,9 @@ impl Collections {
     }
 
     fn shared_document(&mut self, ns: &NsName, bytes: &[u8]) -> Result<Kept, AllocError>
+        requires { fault_in bytes.now ≡ None }
         ensures kept { IfOk result (λ k. taking_of k ≡ doc ns.now bytes.now) }
+        ensures sound { IfOk result (λ k. is_sound k ≡ true) }
         ensures same { self.new ≡ record self.old { names = self.new.names } }
     {
         let name = self.names.share(self.alloc, ns)?;
@@ -130,6 +135,7 @@ impl Collections {
 
     fn shared_metadata(&mut self, ns: &NsName, text: &str) -> Result<Kept, AllocError>
         ensures kept { IfOk result (λ k. taking_of k ≡ meta ns.now text.now) }
+        ensures sound { IfOk result (λ k. is_sound k ≡ true) }
         ensures same { self.new ≡ record self.old { names = self.new.names } }
     {
         let name = self.names.share(self.alloc, ns)?;
@@ -138,6 +144,7 @@ impl Collections {
 
     fn shared_end(&mut self, ns: &NsName) -> Result<Kept, AllocError>
         ensures kept { IfOk result (λ k. taking_of k ≡ end ns.now) }
+        ensures sound { IfOk result (λ k. is_sound k ≡ true) }
         ensures same { self.new ≡ record self.old { names = self.new.names } }
     {
         Ok(Kept::End(self.names.share(self.alloc, ns)?))

@@ -11,5 +11,5 @@ returns-clause-ok c =
     let named_so : named (c.as_str.result, c.as_str-2.result) ≡ c.ns-ns.result.now = λ i. record { db = c.as_str.ensures i; coll = c.as_str-2.ensures i } in
     on_ok c.put_back.result
     (λ back. taking_put (gathered_in c.args.gathered.now) (gathered_in c.take_out-held.new.gathered) (gathered_in c.put_back.new.gathered) _ (contents_in c.put_in.new.held) t
-    (named_so ∙ c.ns-ns.ensures) c.requires c.take_out-held.ensures.others back (c.in_ok-put_in.ensures ∙ ap (put_in t) c.take_out-held.ensures.contents))
+    (named_so ∙ c.ns-ns.ensures) c.requires.order c.take_out-held.ensures.others back (c.in_ok-put_in.ensures ∙ ap (put_in t) c.take_out-held.ensures.contents))
     c.put_back.ensures.ok
