@@ -178,6 +178,8 @@ impl DocTaker for Notes {
 
     ghost starved = { λ n. n.starved };
 
+    ghost halted = { λ _ _. true };
+
     fn meta(&mut self, ns: &NsName, text: &str) -> Result<(), Halt> {
         self.take("meta ", ns, text.len())
     }
