@@ -39,7 +39,7 @@ const BAD: &str = r#"
 33 <{"indexes":[{"key":{},"name":1}]}>
 14 <{"options":[]}>
 1 <{>
-9 <{"a":1,"a":2}>
+7 <{"a":1,"a":2}>
 "#;
 
 fn both(alloc: Global, text: &str) -> Result<JList<Tree>, Fail> {
