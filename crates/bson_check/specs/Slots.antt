@@ -1,6 +1,7 @@
 -- A set of names that may hold more than was put in: two bits for each slot of a name.
-use Rattle.std.specs.Prelude.{◌≡◌, ℕ, ◌+◌, ◌*◌, ◌/◌, ◌%◌, List, [], ◌∷◌, slice_index}
+use Rattle.std.specs.Prelude.{◌≡◌, ℕ, ◌+◌, ◌-◌, ◌*◌, ◌/◌, ◌%◌, List, [], ◌∷◌, length, slice_index}
 use Rattle.std.specs.Int.{bit_at}
+use Rattle.std.specs.Int.Bits.{bit_and}
 
 abbrev pub hash_on : ℕ → ℕ → List ℕ → ℕ
 hash_on factor h [] = h
@@ -9,9 +10,9 @@ hash_on factor h (b ∷ bs) = hash_on factor ((h + b) % 4294967296 * factor % 42
 unfoldable pub slot_of : ℕ → List ℕ → ℕ
 slot_of factor name = hash_on factor 0 name
 
--- a word and two bits of it
-abbrev pub word_of : ℕ → ℕ
-word_of slot = slot / 524288
+-- one of so many words, and two bits of it
+abbrev pub word_of : ℕ → ℕ → ℕ
+word_of words slot = bit_and (slot / 524288) (words - 1)
 
 abbrev pub first_bit : ℕ → ℕ
 first_bit slot = slot / 8192 % 64
@@ -19,8 +20,11 @@ first_bit slot = slot / 8192 % 64
 abbrev pub second_bit : ℕ → ℕ
 second_bit slot = slot / 128 % 64
 
+abbrev pub HasBitsAt : ℕ → List ℕ → ℕ → Type 0
+HasBitsAt i words slot = (bit_at (slice_index words i) (first_bit slot) ≡ 1) × (bit_at (slice_index words i) (second_bit slot) ≡ 1)
+
 abbrev pub HasBits : List ℕ → ℕ → Type 0
-HasBits words slot = (bit_at (slice_index words (word_of slot)) (first_bit slot) ≡ 1) × (bit_at (slice_index words (word_of slot)) (second_bit slot) ≡ 1)
+HasBits words slot = HasBitsAt (word_of (length words) slot) words slot
 
 -- the bits of this name are set
 unfoldable pub IsMarked : List ℕ → ℕ → List ℕ → Type 0

@@ -5,14 +5,11 @@ ghost use Rattle.bson_check.specs.Blocks.{IsEnd, name_at, starts, InOrder, Known
 ghost use Rattle.bson_check.specs.Slots.{IsMarked};
 
 use crate::passing::step;
-use crate::slots::{WORDS, mark, may_have};
+use crate::slots::{mark, may_have};
 use crate::table::{is_known, sort};
 
 // The longest body of which a place is a u32.
 pub(crate) const LONGEST: usize = 4294967295;
-
-// Names in a block. Each block takes a walk over the names behind it.
-const BLOCK: usize = 32768;
 
 // Writes down where elements start, up to the last `left` bytes or until the block is full, and says how many they are and what is behind them.
 fn fill<'a>(from: &'a [u8], left: usize, block: &mut [u32]) -> (usize, &'a [u8])
@@ -40,13 +37,14 @@ fn fill<'a>(from: &'a [u8], left: usize, block: &mut [u32]) -> (usize, &'a [u8])
 // Whether an element of the block before this place has this name. Most names that it hasn't are told by their slot.
 fn stands_before(
     factor: u32,
-    words: &[u64; WORDS],
+    words: &[u64],
     body: &[u8],
     block: &[u32],
     name: &[u8],
     left: usize,
 ) -> bool
     requires sorted { InOrder body.now block.now }
+    requires some_words { 0 < length words.now }
     requires marked { (e : ℕ) → Contains block.now e → IsMarked words.now factor (name_at body.now e) }
     ensures { IsTrue result ↔ Known body.now block.now name.now left }
 {
@@ -57,8 +55,9 @@ fn stands_before(
 }
 
 // Where the first element from here on starts that has the name of one of the block before it. Only elements before the last `stop` bytes count: without such a one the answer is `stop`.
-fn first_known(body: &[u8], block: &[u32], from: &[u8], stop: usize) -> usize
+fn first_known(body: &[u8], block: &[u32], words: &mut [u64], from: &[u8], stop: usize) -> usize
     requires sorted { InOrder body.now block.now }
+    requires some_words { 0 < length words.old }
     requires small { length from.now ≤ LONGEST }
     requires end { IsEnd body.now from.now }
     ensures least { stop ≤ result }
@@ -67,15 +66,15 @@ fn first_known(body: &[u8], block: &[u32], from: &[u8], stop: usize) -> usize
 {
     // Another hash for each block: names that share their slots in one block don't in the others.
     let factor = (from.len() as u32).wrapping_mul(2654435761) | 1;
-    let mut words = [0u64; WORDS];
-    mark(factor, body, block, &mut words);
+    words.fill(0);
+    mark(factor, body, block, words);
     let mut rest = from;
     'names: while let Some((tag, bytes)) = rest.split_first() {
         if rest.len() <= stop {
             return stop;
         }
         let (name, next) = step(*tag, bytes);
-        if stands_before(factor, &words, body, block, name, rest.len()) {
+        if stands_before(factor, words, body, block, name, rest.len()) {
             return rest.len();
         }
         rest = next;
@@ -83,21 +82,27 @@ fn first_known(body: &[u8], block: &[u32], from: &[u8], stop: usize) -> usize
     stop
 }
 
-// The first name that stands before it too, by its place. Its table takes 128 KiB of the stack, so it stays a frame of its own.
-#[inline(never)]
-pub(crate) fn in_blocks(end: usize, body: &[u8], left: usize) -> Option<usize>
+// The first name that stands before it too, by its place. The table holds the names of a block, and each block takes a walk over the names behind it.
+pub(crate) fn in_blocks(
+    end: usize,
+    body: &[u8],
+    left: usize,
+    table: &mut [u32],
+    words: &mut [u64],
+) -> Option<usize>
     requires fits { length body.now ≤ end }
     requires small { length body.now ≤ LONGEST }
+    requires some_names { 0 < length table.old }
+    requires some_words { 0 < length words.old }
     ensures { (ns : List (List ℕ)) → (to : List ℕ) → Path ns body.now to → length to ≡ left → repeat_at end [] ns body.now ≡ result }
 {
-    let mut table = [0u32; BLOCK];
     let mut rest = body;
     let mut stop = left;
     'parts: while stop < rest.len() {
-        let (count, after) = fill(rest, left, &mut table);
+        let (count, after) = fill(rest, left, table);
         let block = &mut table[..count];
         sort(body, block);
-        stop = first_known(body, block, rest, stop);
+        stop = first_known(body, block, words, rest, stop);
         rest = after;
     }
     if left < stop {

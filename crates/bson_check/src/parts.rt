@@ -1,4 +1,7 @@
 //! The parts of a document's bytes, read without memory.
+//!
+//! Each reader takes the bytes from its part on, and `end`: the place, in bytes from the document's start, at which
+//! these bytes end. So a fault's place is `end` less what is left. It gives what it read and the bytes behind it.
 ghost use Rattle.std.specs.Prelude.{◌≡◌, ◌+◌, ◌-◌, ◌*◌, ◌<◌, ◌≤◌, [], ◌∷◌, ◌++◌, length, slice_index, ◌^◌, List, ℕ, ◌==◌, IfSome, IfOk, Contains, MatchOption, OnOk, OnErr, true, false, take, drop, Ok};
 ghost use Rattle.std.specs.Str.{is_utf8};
 ghost use Rattle.std.specs.List.{position_from};
@@ -8,13 +11,14 @@ ghost use Rattle.bson_check.specs.Reading.{Reads, number, int_at, bool_at, text_
 use crate::fault::{BsonFault, BsonKind};
 use bson_value::Value;
 
+/// A fault of this kind, `at` bytes from the start of the document.
 pub fn fault(kind: BsonKind, at: usize) -> BsonFault
     ensures { result ≡ (record { kind = kind; at = at }) }
 {
     BsonFault { kind, at }
 }
 
-// The number in the first four bytes.
+/// The number in the first four bytes, the least first.
 #[tactic(auto, unfolding(crate::specs::Reading::number))]
 pub fn number_of(bytes: &[u8]) -> u32
     requires { 4 ≤ length bytes.now }
@@ -23,6 +27,7 @@ pub fn number_of(bytes: &[u8]) -> u32
     u32::from_le_bytes([bytes[0], bytes[1], bytes[2], bytes[3]])
 }
 
+/// An int32: four bytes, the least first, in two's complement.
 #[tactic(auto, unfolding(crate::specs::Reading::int_at))]
 pub fn int(end: usize, bytes: &[u8]) -> Result<(Value, &[u8]), BsonFault>
     requires { length bytes.now ≤ end }
@@ -36,6 +41,7 @@ pub fn int(end: usize, bytes: &[u8]) -> Result<(Value, &[u8]), BsonFault>
     Ok((Value::Int(number_of(bytes).cast_signed()), &bytes[4..]))
 }
 
+/// One byte, which is 0 or 1.
 #[tactic(auto, unfolding(crate::specs::Reading::bool_at))]
 pub fn boolean(end: usize, bytes: &[u8]) -> Result<(Value, &[u8]), BsonFault>
     requires { length bytes.now ≤ end }
@@ -51,7 +57,7 @@ pub fn boolean(end: usize, bytes: &[u8]) -> Result<(Value, &[u8]), BsonFault>
     }
 }
 
-// The bytes as a text, if they are one.
+/// The bytes as a text, where they are UTF-8.
 pub fn as_text(bytes: &[u8]) -> Option<&str>
     ensures { MatchOption result (is_utf8 bytes.now ≡ false) (λ text. (is_utf8 bytes.now ≡ true) × (text.now ≡ bytes.now)) }
 {
@@ -61,6 +67,7 @@ pub fn as_text(bytes: &[u8]) -> Option<&str>
     }
 }
 
+/// A string: its length with the final zero in four bytes, its text in UTF-8, a zero.
 #[tactic(auto, unfolding(crate::specs::Reading::text_at, crate::specs::Passing::count_of))]
 pub fn text(end: usize, bytes: &[u8]) -> Result<(&str, &[u8]), BsonFault>
     requires { length bytes.now ≤ end }
@@ -85,7 +92,7 @@ pub fn text(end: usize, bytes: &[u8]) -> Result<(&str, &[u8]), BsonFault>
     }
 }
 
-// So many bytes as they are.
+/// The first `n` bytes as they are.
 #[tactic(auto, unfolding(crate::specs::Reading::run_at))]
 pub fn run(n: usize, end: usize, bytes: &[u8]) -> Result<(&[u8], &[u8]), BsonFault>
     requires { length bytes.now ≤ end }
@@ -100,7 +107,7 @@ pub fn run(n: usize, end: usize, bytes: &[u8]) -> Result<(&[u8], &[u8]), BsonFau
     Ok((&bytes[..n], &bytes[n..]))
 }
 
-// A text with its length and final zero, before it is decoded.
+/// A string before its text is decoded. A fault stands at `at`.
 #[tactic(auto, unfolding(crate::specs::Reading::raw_at, crate::specs::Passing::count_of))]
 pub fn raw(at: usize, bytes: &[u8]) -> Result<(&[u8], &[u8]), BsonFault>
     ensures gives { Reads (λ x. (x.0.now, x.1.now)) result (raw_at at bytes.now) }
@@ -120,6 +127,7 @@ pub fn raw(at: usize, bytes: &[u8]) -> Result<(&[u8], &[u8]), BsonFault>
     Ok((&bytes[4..count + 3], &bytes[count + 4..]))
 }
 
+/// A binary: the length of its content in four bytes, its subtype, its content. The length within the content of subtype 02 isn't looked at.
 #[tactic(auto, unfolding(crate::specs::Reading::binary_at, crate::specs::Passing::count_of))]
 pub fn binary(end: usize, bytes: &[u8]) -> Result<(u8, &[u8], &[u8]), BsonFault>
     requires { length bytes.now ≤ end }
@@ -138,6 +146,7 @@ pub fn binary(end: usize, bytes: &[u8]) -> Result<(u8, &[u8], &[u8]), BsonFault>
     Ok((bytes[4], &bytes[5..count + 5], &bytes[count + 5..]))
 }
 
+/// The bytes up to the first zero. A fault stands at `at`.
 #[tactic(auto, unfolding(crate::specs::Reading::cut_at, crate::specs::Passing::past_zero))]
 pub fn cut(at: usize, bytes: &[u8]) -> Result<(&[u8], &[u8]), BsonFault>
     ensures gives { Reads (λ x. (x.0.now, x.1.now)) result (cut_at at bytes.now) }
@@ -151,6 +160,7 @@ pub fn cut(at: usize, bytes: &[u8]) -> Result<(&[u8], &[u8]), BsonFault>
     }
 }
 
+/// The two texts of a regular expression, pattern and options, and the bytes behind them.
 #[derive(Drop)]
 pub struct Pair<'a> {
     pub first: &'a str,
@@ -158,6 +168,7 @@ pub struct Pair<'a> {
     pub after: &'a [u8],
 }
 
+/// Two texts, each with a zero behind it. Both zeros are looked for before either text is decoded.
 #[tactic(auto, unfolding(crate::specs::Reading::regex_at))]
 pub fn regex(end: usize, bytes: &[u8]) -> Result<Pair<'_>, BsonFault>
     requires { length bytes.now ≤ end }
@@ -182,6 +193,7 @@ pub fn regex(end: usize, bytes: &[u8]) -> Result<Pair<'_>, BsonFault>
     }
 }
 
+/// A DbPointer: a string and twelve bytes, all of which are looked for before the string is decoded.
 #[tactic(auto, unfolding(crate::specs::Reading::pointer_at, crate::specs::Passing::count_of))]
 pub fn pointer(end: usize, bytes: &[u8]) -> Result<(&str, &[u8], &[u8]), BsonFault>
     requires { length bytes.now ≤ end }
@@ -201,6 +213,7 @@ pub fn pointer(end: usize, bytes: &[u8]) -> Result<(&str, &[u8], &[u8]), BsonFau
     }
 }
 
+/// A document or an array whose frame was read: the bytes of its elements, the place at which they end, the byte there, and the bytes behind it.
 #[derive(Drop)]
 pub struct Open<'a> {
     pub body: &'a [u8],
@@ -209,6 +222,7 @@ pub struct Open<'a> {
     pub after: &'a [u8],
 }
 
+/// The frame of a document or an array: its length, itself with it, in four bytes, its elements, and one byte more. It needs a level.
 #[tactic(auto, unfolding(crate::specs::Reading::frame_at, crate::specs::Passing::count_of))]
 pub fn frame(levels: usize, end: usize, bytes: &[u8]) -> Result<Open<'_>, BsonFault>
     requires { length bytes.now ≤ end }
@@ -236,12 +250,14 @@ pub fn frame(levels: usize, end: usize, bytes: &[u8]) -> Result<Open<'_>, BsonFa
     })
 }
 
+/// A code with a scope whose parts were read.
 #[derive(Drop)]
 pub struct OpenScope<'a> {
     pub code: &'a str,
     pub scope: Open<'a>,
 }
 
+/// The scope of a code, which fills these bytes, and the code, in UTF-8. A fault stands at `at`, and the scope's elements end at `stop`.
 #[tactic(auto, unfolding(crate::specs::Reading::scope_at))]
 pub fn scope<'a>(
     levels: usize,
@@ -280,6 +296,7 @@ pub fn scope<'a>(
     }
 }
 
+/// A code with a scope: its length, itself with it, in four bytes, a string and a document that fill it.
 #[tactic(auto, unfolding(crate::specs::Reading::total_at, crate::specs::Passing::count_of))]
 pub fn total(levels: usize, end: usize, bytes: &[u8]) -> Result<OpenScope<'_>, BsonFault>
     requires { length bytes.now ≤ end }
@@ -300,7 +317,7 @@ pub fn total(levels: usize, end: usize, bytes: &[u8]) -> Result<OpenScope<'_>, B
     scope(levels, at, at + (count - 1), &bytes[count..], code, behind)
 }
 
-// Where the first zero is.
+/// How many bytes stand before the first zero.
 pub fn zero_place(bytes: &[u8]) -> Option<usize>
     ensures place { result ≡ position_from (λ b. b == 0) 0 bytes.now }
     ensures within { IfSome result (λ i. i < length bytes.now) }
@@ -309,6 +326,7 @@ pub fn zero_place(bytes: &[u8]) -> Option<usize>
     bytes.iter().position(|b| *b == 0)
 }
 
+/// The name of an element: the bytes up to a zero.
 #[tactic(auto, unfolding(crate::specs::Reading::name_at, crate::specs::Passing::past_zero, crate::specs::Passing::upto_zero))]
 pub fn name(end: usize, bytes: &[u8]) -> Result<(&[u8], &[u8]), BsonFault>
     requires { length bytes.now ≤ end }
@@ -324,6 +342,7 @@ pub fn name(end: usize, bytes: &[u8]) -> Result<(&[u8], &[u8]), BsonFault>
     }
 }
 
+/// Whether this byte is the type of an element.
 pub fn is_type(tag: u8) -> bool
     ensures { result ≡ is_type tag }
 {

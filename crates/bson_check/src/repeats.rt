@@ -1,10 +1,11 @@
 //! The first name of a document that stands twice.
-ghost use Rattle.std.specs.Prelude.{◌≡◌, ◌≤◌, [], length, List, ℕ};
+ghost use Rattle.std.specs.Prelude.{◌≡◌, ◌<◌, ◌≤◌, [], length, List, ℕ, IfSome};
 ghost use Rattle.bson_check.specs.Passing.{Path, has, is_above, repeat_at, fault_of};
 
 use crate::blocks::{LONGEST, in_blocks};
 use crate::fault::{BsonFault, BsonKind};
 use crate::passing::step;
+use crate::slots::put;
 use std::cmp::Ordering;
 
 // Whether an element of this name stands in the bytes before the last `left` ones.
@@ -31,14 +32,91 @@ fn is_above(name: &[u8], top: &[u8]) -> bool
     matches!(top.cmp(name), Ordering::Less)
 }
 
-// A name that isn't above all before it is looked for: the first ones element after element, and where they are more than that all names block after block.
-const FEW: u32 = 32;
+// Any odd number with bits all over it.
+const FACTOR: u32 = 2654435769;
+
+// How many names that weren't there may share their slots with names before them.
+const SHARED: u32 = 16;
+
+// The first name that stands before it too, by its place. It is looked for only where its slot was taken, and the search gives up, with `None`, where that comes too often.
+fn in_slots(end: usize, body: &[u8], left: usize, words: &mut [u64]) -> Option<Option<usize>>
+    requires fits { length body.now ≤ end }
+    requires some_words { 0 < length words.old }
+    ensures { (ns : List (List ℕ)) → (to : List ℕ) → Path ns body.now to → length to ≡ left → IfSome result (λ r. repeat_at end [] ns body.now ≡ r) }
+{
+    let mut rest = body;
+    let mut tries = SHARED;
+    'names: while let Some((tag, bytes)) = rest.split_first() {
+        if bytes.len() < left {
+            return Some(None);
+        }
+        let (name, next) = step(*tag, bytes);
+        if put(FACTOR, name, words) {
+            if was_there(body, bytes.len() + 1, name) {
+                return Some(Some(end - bytes.len()));
+            }
+            if tries == 0 {
+                return None;
+            }
+            tries -= 1;
+        }
+        rest = next;
+    }
+    Some(None)
+}
+
+// The longest body whose names go into a small set.
+const SMALL: usize = 4096;
+
+// Its tables take 3 KiB of the stack.
+#[inline(never)]
+fn in_small(end: usize, body: &[u8], left: usize) -> Option<usize>
+    requires fits { length body.now ≤ end }
+    requires small { length body.now ≤ LONGEST }
+    ensures { (ns : List (List ℕ)) → (to : List ℕ) → Path ns body.now to → length to ≡ left → repeat_at end [] ns body.now ≡ result }
+{
+    let mut words = [0u64; 128];
+    match in_slots(end, body, left, &mut words) {
+        Some(found) => found,
+        None => in_blocks(end, body, left, &mut [0u32; 512], &mut words),
+    }
+}
+
+// Its tables take 192 KiB of the stack, so it stays a frame of its own.
+#[inline(never)]
+fn in_large(end: usize, body: &[u8], left: usize) -> Option<usize>
+    requires fits { length body.now ≤ end }
+    requires small { length body.now ≤ LONGEST }
+    ensures { (ns : List (List ℕ)) → (to : List ℕ) → Path ns body.now to → length to ≡ left → repeat_at end [] ns body.now ≡ result }
+{
+    let mut words = [0u64; 8192];
+    match in_slots(end, body, left, &mut words) {
+        Some(found) => found,
+        None => in_blocks(end, body, left, &mut [0u32; 32768], &mut words),
+    }
+}
+
+fn in_any_order(end: usize, body: &[u8], left: usize) -> Option<usize>
+    requires fits { length body.now ≤ end }
+    requires small { length body.now ≤ LONGEST }
+    ensures { (ns : List (List ℕ)) → (to : List ℕ) → Path ns body.now to → length to ≡ left → repeat_at end [] ns body.now ≡ result }
+{
+    if body.len() <= SMALL {
+        in_small(end, body, left)
+    } else {
+        in_large(end, body, left)
+    }
+}
+
+// Names that aren't above all before them are looked for name by name, as often as this.
+const FEW: u32 = 4;
 
 /// The first name that stands before it too, by its place, among the elements before the last `left` bytes.
 ///
-/// It takes no memory, and some 200 KiB of the stack. Names that rise take one walk. Others are sorted in blocks of
-/// 32,768, and the names behind a block are looked for in it: n log n steps for n names, and n * n / 65,536 short ones,
-/// whatever their order is, which is some seconds for the 2,000,000 names that 16 MiB hold.
+/// It takes no memory, and some 200 KiB of the stack. Names that rise take one walk, and names in another order two,
+/// with a few steps more for each: some 10,000 names at most. More than that are sorted in blocks of 32,768, and the
+/// names behind a block are looked for in it: n log n steps for n names, and n * n / 65,536 short ones, whatever their
+/// order is, which is some seconds for the 2,000,000 names that 16 MiB hold.
 /// A body of more than 4,294,967,295 bytes, as no document has one, is searched name by name.
 pub fn first_repeat(end: usize, body: &[u8], left: usize) -> Option<usize>
     requires { length body.now ≤ end }
@@ -55,7 +133,7 @@ pub fn first_repeat(end: usize, body: &[u8], left: usize) -> Option<usize>
         if is_above(name, top) {
             top = name;
         } else if tries == 0 && body.len() <= LONGEST {
-            return in_blocks(end, body, left);
+            return in_any_order(end, body, left);
         } else if was_there(body, bytes.len() + 1, name) {
             return Some(end - bytes.len());
         } else {
@@ -77,24 +155,5 @@ pub fn first_fault(end: usize, body: &[u8], left: usize, fault: BsonFault) -> Bs
             at,
         },
         None => fault,
-    }
-}
-
-#[cfg(test)]
-mod tests {
-    use super::*;
-    use std::test::Fail;
-
-    // Forty null fields whose names fall, and then one of the names again.
-    #[test]
-    fn many_falling_names(rt: HostRuntime) -> Result<(), Fail> {
-        let mut body = Vec::new(rt.alloc());
-        for i in 0..40u8 {
-            body.extend_from_slice(&[10, 100 - i, 0])?;
-        }
-        assert_eq!(rt; first_repeat(body.len(), body.as_slice(), 0), None);
-        body.extend_from_slice(&[10, 80, 0])?;
-        assert_eq!(rt; first_repeat(body.len(), body.as_slice(), 0), Some(121));
-        Ok(())
     }
 }

@@ -1,14 +1,10 @@
 //! A set of names that may hold more than was put in, two bits for each slot of a name.
-ghost use Rattle.std.specs.Prelude.{◌≡◌, ℕ, IsTrue, Contains};
+ghost use Rattle.std.specs.Prelude.{◌≡◌, ◌<◌, ℕ, List, IsTrue, Contains, length};
 ghost use Rattle.bson_check.specs.Blocks.{name_at};
-ghost use Rattle.bson_check.specs.Slots.{slot_of, IsMarked};
+ghost use Rattle.bson_check.specs.Slots.{slot_of, word_of, HasBits, IsMarked};
 
 use crate::table::name_at;
 
-// Words of 64 bits.
-pub(crate) const WORDS: usize = 8192;
-
-// The upper 25 bits of the hash say which word, and which bits of it.
 #[tactic(auto, unfolding(crate::specs::Slots::slot_of))]
 fn slot(factor: u32, name: &[u8]) -> u32
     ensures { result ≡ slot_of factor name.now }
@@ -20,24 +16,66 @@ fn slot(factor: u32, name: &[u8]) -> u32
     hash
 }
 
-// Puts the names of these elements into the set.
-pub(crate) fn mark(factor: u32, body: &[u8], block: &[u32], words: &mut [u64; WORDS])
-    ensures { (e : ℕ) → Contains block.now e → IsMarked words.new factor (name_at body.now e) }
+// The upper 13 bits of a slot say which word, and the next 12 which bits of it.
+#[tactic(auto, using(std::proofs::lemmas::Nat::and_le_r))]
+fn word(slot: u32, words: usize) -> usize
+    requires { 0 < words }
+    ensures value { result ≡ word_of words slot }
+    ensures within { result < words }
 {
-    for start in block {
-        let slot = slot(factor, name_at(body, *start));
-        words[(slot / 524288) as usize] |= 1 << (slot / 8192 % 64);
-        words[(slot / 524288) as usize] |= 1 << (slot / 128 % 64);
-    }
+    (slot / 524288) as usize & (words - 1)
 }
 
-pub(crate) fn may_have(factor: u32, words: &[u64; WORDS], name: &[u8]) -> bool
-    ensures { IsMarked words.now factor name.now → IsTrue result }
+fn has_bits(words: &[u64], slot: u32) -> bool
+    requires { 0 < length words.now }
+    ensures { HasBits words.now slot → IsTrue result }
 {
-    let slot = slot(factor, name);
-    let word = words[(slot / 524288) as usize];
+    let at = word(slot, words.len());
+    let word = words[at];
     if word >> (slot / 8192 % 64) & 1 != 1 {
         return false;
     }
     word >> (slot / 128 % 64) & 1 == 1
+}
+
+fn set_bits(words: &mut [u64], slot: u32)
+    requires { 0 < length words.old }
+    ensures itself { HasBits words.new slot }
+    ensures others { (s : ℕ) → HasBits words.old s → HasBits words.new s }
+{
+    let at = word(slot, words.len());
+    words[at] |= 1 << (slot / 8192 % 64);
+    words[at] |= 1 << (slot / 128 % 64);
+}
+
+// Puts the name into the set, and says whether it may have been there.
+#[tactic(auto, unfolding(crate::specs::Slots::IsMarked))]
+pub(crate) fn put(factor: u32, name: &[u8], words: &mut [u64]) -> bool
+    requires { 0 < length words.old }
+    ensures there { IsMarked words.old factor name.now → IsTrue result }
+    ensures itself { IsMarked words.new factor name.now }
+    ensures others { (n : List ℕ) → IsMarked words.old factor n → IsMarked words.new factor n }
+{
+    let slot = slot(factor, name);
+    let may_have = has_bits(words, slot);
+    set_bits(words, slot);
+    may_have
+}
+
+// Puts the names of these elements into the set.
+pub(crate) fn mark(factor: u32, body: &[u8], block: &[u32], words: &mut [u64])
+    requires { 0 < length words.old }
+    ensures { (e : ℕ) → Contains block.now e → IsMarked words.new factor (name_at body.now e) }
+{
+    for start in block {
+        let _was_there = put(factor, name_at(body, *start), words);
+    }
+}
+
+#[tactic(auto, unfolding(crate::specs::Slots::IsMarked))]
+pub(crate) fn may_have(factor: u32, words: &[u64], name: &[u8]) -> bool
+    requires { 0 < length words.now }
+    ensures { IsMarked words.now factor name.now → IsTrue result }
+{
+    has_bits(words, slot(factor, name))
 }
