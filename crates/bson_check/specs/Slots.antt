@@ -12,13 +12,13 @@ slot_of factor name = hash_on factor 0 name
 
 -- one of so many words, and two bits of it
 abbrev pub word_of : ℕ → ℕ → ℕ
-word_of words slot = bit_and (slot / 524288) (words - 1)
+word_of words slot = bit_and (slot / 65536) (words - 1)
 
 abbrev pub first_bit : ℕ → ℕ
-first_bit slot = slot / 8192 % 64
+first_bit slot = slot / 1024 % 64
 
 abbrev pub second_bit : ℕ → ℕ
-second_bit slot = slot / 128 % 64
+second_bit slot = slot / 16 % 64
 
 abbrev pub HasBitsAt : ℕ → List ℕ → ℕ → Type 0
 HasBitsAt i words slot = (bit_at (slice_index words i) (first_bit slot) ≡ 1) × (bit_at (slice_index words i) (second_bit slot) ≡ 1)

@@ -65,8 +65,10 @@ fn in_slots(end: usize, body: &[u8], left: usize, words: &mut [u64]) -> Option<O
     Some(None)
 }
 
-// The longest body whose names go into a small set.
+// The longest bodies whose names go into a small and into a large set.
 const SMALL: usize = 4096;
+
+const LARGE: usize = 65536;
 
 // Its tables take 3 KiB of the stack.
 #[inline(never)]
@@ -82,7 +84,7 @@ fn in_small(end: usize, body: &[u8], left: usize) -> Option<usize>
     }
 }
 
-// Its tables take 192 KiB of the stack, so it stays a frame of its own.
+// Its tables take 192 KiB of the stack, so they stand in a frame of their own.
 #[inline(never)]
 fn in_large(end: usize, body: &[u8], left: usize) -> Option<usize>
     requires fits { length body.now ≤ end }
@@ -96,6 +98,20 @@ fn in_large(end: usize, body: &[u8], left: usize) -> Option<usize>
     }
 }
 
+// Its tables take 640 KiB of the stack.
+#[inline(never)]
+fn in_huge(end: usize, body: &[u8], left: usize) -> Option<usize>
+    requires fits { length body.now ≤ end }
+    requires small { length body.now ≤ LONGEST }
+    ensures { (ns : List (List ℕ)) → (to : List ℕ) → Path ns body.now to → length to ≡ left → repeat_at end [] ns body.now ≡ result }
+{
+    let mut words = [0u64; 65536];
+    match in_slots(end, body, left, &mut words) {
+        Some(found) => found,
+        None => in_blocks(end, body, left, &mut [0u32; 32768], &mut words),
+    }
+}
+
 fn in_any_order(end: usize, body: &[u8], left: usize) -> Option<usize>
     requires fits { length body.now ≤ end }
     requires small { length body.now ≤ LONGEST }
@@ -103,8 +119,10 @@ fn in_any_order(end: usize, body: &[u8], left: usize) -> Option<usize>
 {
     if body.len() <= SMALL {
         in_small(end, body, left)
-    } else {
+    } else if body.len() <= LARGE {
         in_large(end, body, left)
+    } else {
+        in_huge(end, body, left)
     }
 }
 
@@ -113,10 +131,10 @@ const FEW: u32 = 4;
 
 /// The first name that stands before it too, by its place, among the elements before the last `left` bytes.
 ///
-/// It takes no memory, and some 200 KiB of the stack. Names that rise take one walk, and names in another order two,
-/// with a few steps more for each: some 10,000 names at most. More than that are sorted in blocks of 32,768, and the
-/// names behind a block are looked for in it: n log n steps for n names, and n * n / 65,536 short ones, whatever their
-/// order is, which is some seconds for the 2,000,000 names that 16 MiB hold.
+/// It takes no memory, and at most 640 KiB of the stack. Names that rise take one walk, and up to some 50,000 in
+/// another order take two. More than that are sorted in blocks of 32,768, and the names behind a block are looked for
+/// in it: n log n steps for n names, and n * n / 65,536 short ones, whatever their order is, which is some seconds for
+/// the 2,000,000 names that 16 MiB hold.
 /// A body of more than 4,294,967,295 bytes, as no document has one, is searched name by name.
 pub fn first_repeat(end: usize, body: &[u8], left: usize) -> Option<usize>
     requires { length body.now ≤ end }

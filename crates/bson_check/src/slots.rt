@@ -16,14 +16,14 @@ fn slot(factor: u32, name: &[u8]) -> u32
     hash
 }
 
-// The upper 13 bits of a slot say which word, and the next 12 which bits of it.
+// The upper 16 bits of a slot say which word, and the next 12 which bits of it.
 #[tactic(auto, using(std::proofs::lemmas::Nat::and_le_r))]
 fn word(slot: u32, words: usize) -> usize
     requires { 0 < words }
     ensures value { result ≡ word_of words slot }
     ensures within { result < words }
 {
-    (slot / 524288) as usize & (words - 1)
+    (slot / 65536) as usize & (words - 1)
 }
 
 fn has_bits(words: &[u64], slot: u32) -> bool
@@ -32,10 +32,10 @@ fn has_bits(words: &[u64], slot: u32) -> bool
 {
     let at = word(slot, words.len());
     let word = words[at];
-    if word >> (slot / 8192 % 64) & 1 != 1 {
+    if word >> (slot / 1024 % 64) & 1 != 1 {
         return false;
     }
-    word >> (slot / 128 % 64) & 1 == 1
+    word >> (slot / 16 % 64) & 1 == 1
 }
 
 fn set_bits(words: &mut [u64], slot: u32)
@@ -44,8 +44,8 @@ fn set_bits(words: &mut [u64], slot: u32)
     ensures others { (s : ℕ) → HasBits words.old s → HasBits words.new s }
 {
     let at = word(slot, words.len());
-    words[at] |= 1 << (slot / 8192 % 64);
-    words[at] |= 1 << (slot / 128 % 64);
+    words[at] |= 1 << (slot / 1024 % 64);
+    words[at] |= 1 << (slot / 16 % 64);
 }
 
 // Puts the name into the set, and says whether it may have been there.
