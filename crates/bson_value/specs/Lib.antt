@@ -8,3 +8,4 @@ pub mod Spelling
 pub mod Namespace
 pub mod Size
 pub mod Timestamp
+pub mod WellFormed
