@@ -3,7 +3,6 @@ ghost use Rattle.std.specs.Prelude.{◌<◌};
 
 use super::*;
 use bson_core::{BsonKind, CText, List, MAX_DOCUMENT_BYTES, decode};
-use doc_path::Path;
 use std::alloc::{AllocError, Global};
 use std::test::Fail;
 
@@ -58,6 +57,15 @@ string.0
 scoped.y
 null.x
 ";
+
+// The names of a dotted path.
+fn names_of(alloc: Global, path: &str) -> Result<List<CText>, Fail> {
+    let mut names = List::new(alloc);
+    for name in path.split('.') {
+        names.push(CText::of(alloc, name)?.ok_or("a zero in a name")?)?;
+    }
+    Ok(names)
+}
 
 fn digit(c: u8) -> u8
     ensures { result < 16 }
@@ -132,8 +140,7 @@ fn paths_through_every_kind(rt: HostRuntime) -> Result<(), Fail> {
     let doc = decode(rt.alloc(), &bytes, bytes.len(), 2)?;
     for line in FIELDS.lines().chain(PLACES.lines()) {
         let (text, tag, value) = told(rt.alloc(), line)?;
-        let path = Path::read(rt.alloc(), text)?;
-        let names = path.names();
+        let names = &names_of(rt.alloc(), text)?;
         assert!(rt; is_elem(view.get(names), tag, &value), "{line}");
         assert!(rt; has_type(Held::Spelled(view).get(names), tag), "{line}");
         assert!(rt; has_type(Held::Built(&doc).get(names), tag), "{line}");
@@ -147,8 +154,7 @@ fn paths_to_no_value(rt: HostRuntime) -> Result<(), Fail> {
     let view = View::check(&bytes, bytes.len(), 2)?;
     let doc = decode(rt.alloc(), &bytes, bytes.len(), 2)?;
     for text in NO_PLACES.lines() {
-        let path = Path::read(rt.alloc(), text)?;
-        let names = path.names();
+        let names = &names_of(rt.alloc(), text)?;
         assert!(rt; view.get(names).is_none(), "{text}");
         assert!(rt; Held::Built(&doc).get(names).is_none(), "{text}");
     }

@@ -6,7 +6,6 @@ pub mod Order
 pub mod PlayedLaws
 pub mod Agreement
 pub mod Places
-pub mod Indexes
 pub mod Decimals
 pub mod Steps
 pub mod Down

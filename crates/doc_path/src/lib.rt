@@ -11,7 +11,8 @@ mod touches;
 mod unsetting;
 mod writing;
 
-pub use index::{index_of, small_index};
+pub use bson_value::index_of;
+pub use index::small_index;
 pub use laws::{
     agreed_for_no_touches, agrees_with_itself, any_order_records, changes_what_it_covers,
     covers_all_below, differences_are_covered, more_touches_agree, playing_keeps_agreement,
