@@ -77,7 +77,7 @@ raw_begins at bytes count t rest w is =
     let d : drop (number bytes + 4) bytes ≡ rest = ap (λ (m : ℕ). drop m bytes) k ∙ w.rest_is in
     rw (a, b, c, l, f, d) refl
 
-text_again : (end : ℕ) (b t rest : List ℕ) → IsString b t → text_at end (b ++ rest) ≡ Ok (t, rest)
+pub text_again : (end : ℕ) (b t rest : List ℕ) → IsString b t → text_at end (b ++ rest) ≡ Ok (t, rest)
 text_again end b t rest s =
     let w = begins s.0 t rest s.1.four in
     subst (λ (x : List ℕ). text_at end (x ++ rest) ≡ Ok (t, rest)) (sym s.3)

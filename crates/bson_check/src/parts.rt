@@ -6,10 +6,10 @@ ghost use Rattle.std.specs.Prelude.{◌≡◌, ◌+◌, ◌-◌, ◌*◌, ◌<�
 ghost use Rattle.std.specs.Str.{is_utf8};
 ghost use Rattle.std.specs.List.{position_from};
 ghost use Rattle.bson_check.specs.Passing.{count_of, past_zero, upto_zero, head_at};
-ghost use Rattle.bson_check.specs.Reading.{Reads, number, int_at, bool_at, text_at, frame_at, Frame, name_at, is_type, run_at, raw_at, binary_at, cut_at, regex_at, pointer_at, scope_at, total_at, Scoped};
+ghost use Rattle.bson_check.specs.Reading.{Reads, number, int_at, bool_at, text_at, frame_at, Frame, name_at, is_type, run_at, raw_at, binary_at, cut_at, regex_at, pointer_at, scope_at, total_at, long_of, stamp_of, Scoped};
 
 use crate::fault::{BsonFault, BsonKind};
-use bson_value::Value;
+use bson_value::{Ts, Value};
 
 /// A fault of this kind, `at` bytes from the start of the document.
 pub fn fault(kind: BsonKind, at: usize) -> BsonFault
@@ -25,6 +25,55 @@ pub fn number_of(bytes: &[u8]) -> u32
     ensures { result ≡ number bytes.now }
 {
     u32::from_le_bytes([bytes[0], bytes[1], bytes[2], bytes[3]])
+}
+
+/// The eight bytes of a run.
+pub fn eight(run: &[u8]) -> [u8; 8]
+    requires { length run.now ≡ 8 }
+    ensures { result ≡ run.now }
+{
+    let mut out = [0; 8];
+    out.copy_from_slice(run);
+    out
+}
+
+/// The twelve bytes of a run.
+pub fn twelve(run: &[u8]) -> [u8; 12]
+    requires { length run.now ≡ 12 }
+    ensures { result ≡ run.now }
+{
+    let mut out = [0; 12];
+    out.copy_from_slice(run);
+    out
+}
+
+/// The sixteen bytes of a run.
+pub fn sixteen(run: &[u8]) -> [u8; 16]
+    requires { length run.now ≡ 16 }
+    ensures { result ≡ run.now }
+{
+    let mut out = [0; 16];
+    out.copy_from_slice(run);
+    out
+}
+
+/// The number in the eight bytes of a run, the least first, in two's complement.
+pub fn long(run: &[u8]) -> i64
+    requires { length run.now ≡ 8 }
+    ensures { result ≡ long_of run.now }
+{
+    i64::from_le_bytes(eight(run))
+}
+
+/// The timestamp in the eight bytes of a run: the ordinal, then the seconds.
+pub fn stamp(run: &[u8]) -> Ts
+    requires { length run.now ≡ 8 }
+    ensures { result ≡ stamp_of run.now }
+{
+    Ts {
+        secs: number_of(&run[4..]),
+        inc: number_of(run),
+    }
 }
 
 /// An int32: four bytes, the least first, in two's complement.

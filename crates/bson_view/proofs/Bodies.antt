@@ -7,7 +7,8 @@ use Rattle.std.proofs.lemmas.List.{take_at, drop_at, length-append}
 use Rattle.containers.specs.Entries.{lookup}
 use Rattle.bson_value.specs.Digits.{index_of}
 use Rattle.bson_value.specs.Place.{nth, at_index}
-use Rattle.bson_value.specs.declared.value.Value.{Value, out-Value}
+use Rattle.bson_value.specs.declared.value.Value.{Value, out-Value, roll-Value, roll-out-Value}
+use Rattle.bson_value.specs.declared.value.Value.TheVariants as values
 use Rattle.bson_value.specs.declared.value.Value.TheOpen.{Value-F}
 use Rattle.bson_check.specs.Passing.{past_zero, jump}
 use Rattle.bson_check.specs.Spells.{Spells, IsFrame, AreBytesOf, AreFields, AreItems, IsDocument, IsArray, type_byte}
@@ -44,7 +45,7 @@ pub record Body (b : List ℕ) (fs : List (List ℕ × Value)) : Type 0 where
   pub frame : IsFrame b (body_of b)
   pub long : 5 ≤ length b
 
-body_by : (n : ℕ) (b : List ℕ) (fs : List (List ℕ × Value)) → IsDocument n b fs → Body b fs
+pub body_by : (n : ℕ) (b : List ℕ) (fs : List (List ℕ × Value)) → IsDocument n b fs → Body b fs
 unfolding IsDocument
 body_by zero b fs d = absurd d
 body_by (suc n) b fs d =
@@ -60,10 +61,10 @@ module _ (b : List ℕ) (fs : List (List ℕ × Value)) (body : Body b fs) where
   items : AreItems (SpellsValue body.levels) (body_of b) (map (λ e. e.1) fs)
   items = fields_items body.levels (body_of b) fs body.spells
 
-  of_fields : HasElements b
+  pub of_fields : HasElements b
   of_fields = (body.long, (body.levels, map (λ e. e.1) fs, items))
 
-  fields_there : AreElementsOf (Value-F.Object fs) b (elements_in b)
+  pub fields_there : AreElementsOf (Value-F.Object fs) b (elements_in b)
   unfolding elements_in
   fields_there = (subst (λ (z : List ℕ). IsFrame b z) (sym (bytes_are body.levels (body_of b) (map (λ e. e.1) fs) items)) body.frame, fields_are body.levels (body_of b) fs body.spells)
 
@@ -248,6 +249,15 @@ module _ (e : Elem) where
 
   pub elem_no_items : (e.tag ≡ 4 → ⊥) → None ≡ items_in (out-Value (elem_value e))
   elem_no_items k = no_items (out-Value (elem_value e)) (λ h. k ((checked_value e.tag e.value.now e.spelled).kind ∙ h))
+
+arrays : (b : List ℕ) (ps : List Part) (v : Value) → type_byte (out-Value v) ≡ 4 → AreElementsOf (out-Value v) b ps → values.Array (values_of ps) ≡ v
+arrays b ps v e s = go (out-Value v) (roll-out-Value v) e s where
+  go : (x : Value-F Value) → roll-Value x ≡ v → type_byte x ≡ 4 → AreElementsOf x b ps → values.Array (values_of ps) ≡ v
+  go (Value-F.Array vs) r e s = ap values.Array s.1 ∙ sym (values.rolls-Array vs) ∙ r
+  go _ r e s = absurd (omega (arith, e))
+
+pub array_value : (e : Elem) (ps : List Part) → e.tag ≡ 4 → AreElementsOf (out-Value (elem_value e)) e.value.now ps → values.Array (values_of ps) ≡ elem_value e
+array_value e ps is s = arrays e.value.now ps (elem_value e) (sym (checked_value e.tag e.value.now e.spelled).kind ∙ is) s
 
 -- an index that no value has
 pub no_value : (vs : List Value) (o : Option ℕ) (m : ℕ) → ((n : ℕ) → o ≡ Some n → m ≤ n) → length vs ≤ m → at_index vs o ≡ None

@@ -31,7 +31,7 @@ count_back c n h k =
     let small : n % (2 ^ 32) ≡ n = omega (arith, word_small c n h k) in
     word_back c n h k ∙ ap (to_le_bytes w32) (sym small)
 
-string_back : (b t : List ℕ) → AreBytes b → IsString b t → b ≡ text_bytes t
+pub string_back : (b t : List ℕ) → AreBytes b → IsString b t → b ≡ text_bytes t
 string_back b t h s =
     let whole : b ≡ s.0 ++ (t ++ 0 ∷ []) = s.3 ∙ append_assoc s.0 t (0 ∷ []) in
     let count : AreBytes s.0 = front_bytes s.0 (t ++ 0 ∷ []) (subst AreBytes whole h) in

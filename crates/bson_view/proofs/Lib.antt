@@ -5,3 +5,6 @@ pub mod Parting
 pub mod Stepping
 pub mod Bodies
 pub mod Leaves
+pub mod Scopes
+pub mod Nested
+pub mod OtherTypes

@@ -7,7 +7,7 @@ use Rattle.bson_value.specs.declared.value.Value.TheOpen.{Value-F}
 use Rattle.bson_check.specs.Spells.{IsFrame, AreBytesOf, AreFields, AreItems, IsDocument, IsArray}
 use Rattle.bson_check.proofs.Height.{levels_at, levels_out, object_levels, code_levels, array_levels}
 
-frame_size : (b elements : List ℕ) → IsFrame b elements → length b ≡ length elements + 5
+pub frame_size : (b elements : List ℕ) → IsFrame b elements → length b ≡ length elements + 5
 frame_size b elements f = omega (arith, ap length f.2, length-append (f.0 ++ elements) (0 ∷ []), length-append f.0 elements, f.1.four)
 
 module _ (D : List ℕ → List (List ℕ × Value) → Type 0) (A : List ℕ → List Value → Type 0)

@@ -4,3 +4,4 @@ pub mod Paths
 pub mod Views
 pub mod Held
 pub mod HeldWalk
+pub mod References

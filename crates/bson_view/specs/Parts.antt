@@ -1,8 +1,9 @@
 -- The elements of a document or an array as parts of its bytes.
-use Rattle.std.specs.Prelude.{◌≡◌, ℕ, zero, suc, ◌-◌, ◌≤◌, List, [], ◌∷◌, ◌++◌, length, take, drop, map, Contains}
+use Rattle.std.specs.Prelude.{◌≡◌, ℕ, zero, suc, ◌-◌, ◌<◌, ◌≤◌, List, [], ◌∷◌, ◌++◌, length, take, drop, map, Contains}
 use Rattle.std.specs.List.{flat_map}
 use Rattle.bson_value.specs.declared.value.Value.{Value, out-Value}
 use Rattle.bson_value.specs.declared.value.Value.TheOpen.{Value-F}
+use Rattle.bson_value.specs.Spelling.{text_bytes}
 use Rattle.bson_check.specs.Passing.{upto_zero, past_zero, jump}
 use Rattle.bson_check.specs.Spells.{IsFrame, AreBytesOf, AreItems, IsDocument, IsArray}
 use Rattle.bson_view.specs.Meaning.{value_in}
@@ -79,3 +80,8 @@ AreElements bytes = (n : ℕ) × (vs : List Value) × AreItems (SpellsValue n) b
 -- elements stand between a length and a zero
 abbrev pub HasElements : List ℕ → Type 0
 HasElements bytes = (5 ≤ length bytes) × AreElements (body_of bytes)
+
+-- a code with a scope: its text as it is spelled, and the elements that are the fields of its scope, in fewer bytes than the value has
+abbrev pub AreScopedParts : Value-F Value → List ℕ → List ℕ → List Part → Type 0
+AreScopedParts (Value-F.ScopedCode t fs) bytes text ps = (text ≡ text_bytes t) × (fields_of ps ≡ fs) × (length (bytes_of ps) < length bytes)
+AreScopedParts _ bytes text ps = ⊥

@@ -1,10 +1,12 @@
 //! An element of a document or an array.
-ghost use Rattle.std.specs.Prelude.{◌≡◌, Some, IfSome, IsTrue, option_map};
+ghost use Rattle.std.specs.Prelude.{◌≡◌, ◌<◌, ◌^◌, length, Some, IfSome, IsTrue, option_map};
 ghost use Rattle.bson_value.specs.declared.value.Value.{out-Value};
 ghost use Rattle.bson_value.specs.Spelling.{spelled, tag_of};
 ghost use Rattle.bson_view.specs.Meaning.{is_value, AreBytes, AreValue, IsLeaf};
 
 use crate::elements::Elements;
+use crate::view::View;
+use bson_check::passing::after;
 use bson_value::CText;
 
 /// An element of a document or an array, with the bytes of its value. The name of an array's element
@@ -15,6 +17,7 @@ pub struct Elem<'a> {
     pub tag: u8,
     pub value: &'a [u8],
     ghost spelled: { IsTrue (is_value tag value.now) },
+    ghost short: { length value.now < 2 ^ 31 },
 }
 
 // Does nothing. Its caller learns that a byte has eight bits.
@@ -23,8 +26,9 @@ fn are_bytes(bytes: &[u8])
 {}
 
 impl<'a> Elem<'a> {
-    ghost use Rattle.bson_view.specs.Views.{elem_part, elem_value, parts_left};
-    ghost use Rattle.bson_view.specs.Parts.{AreElementsOf, elements_in};
+    ghost use Rattle.bson_view.specs.Views.{document, elem_part, elem_value, parts_left};
+    ghost use Rattle.bson_view.specs.Parts.{AreElementsOf, AreScopedParts, elements_in};
+    ghost use Rattle.bson_view.specs.HeldWalk.{fields_in};
     ghost use Rattle.bson_view.specs.Paths.{value_under, value_along, part_under, part_along};
 
     /// Does nothing. Its caller learns that the bytes are those of the value, and the only ones where it
@@ -47,6 +51,29 @@ impl<'a> Elem<'a> {
         } else {
             Elements::none(self.value)
         }
+    }
+
+    /// The document that the element is.
+    pub fn document(&self) -> Option<View<'a>>
+        ensures { option_map document result ≡ fields_in (out-Value (elem_value self.now)) }
+    {
+        if self.tag == 3 {
+            Some(View::of_element(self.value))
+        } else {
+            None
+        }
+    }
+
+    /// The parts of a code with a scope: its text, as it is spelled, and the elements of the scope.
+    pub fn scope(&self) -> (&'a [u8], Elements<'a>)
+        requires { self.now.tag ≡ 15 }
+        ensures { AreScopedParts (out-Value (elem_value self.now)) self.now.value.now result.0.now (parts_left result.1) }
+    {
+        let behind = &self.value[4..];
+        let scope = after(2, behind);
+        let text = &behind[..behind.len() - scope.len()];
+        are_bytes(text);
+        (text, Elements::of_frame(scope))
     }
 
     /// The element under the name: a field of a document, or the element of an array whose index it

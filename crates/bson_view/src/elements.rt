@@ -1,5 +1,5 @@
 //! The elements of a document or an array, one after the other.
-ghost use Rattle.std.specs.Prelude.{◌≡◌, [], IfSome, option_map};
+ghost use Rattle.std.specs.Prelude.{◌≡◌, ◌<◌, ◌^◌, [], length, IfSome, option_map};
 ghost use Rattle.bson_view.specs.Meaning.{AreValue};
 ghost use Rattle.bson_view.specs.Parts.{AreElements, HasElements, elements_in};
 
@@ -13,6 +13,7 @@ use bson_value::index_of;
 pub struct Elements<'a> {
     rest: &'a [u8],
     ghost spelled: { ∥ AreElements rest.now ∥₁ },
+    ghost short: { length rest.now < 2 ^ 31 },
 }
 
 impl<'a> Elements<'a> {
@@ -22,7 +23,8 @@ impl<'a> Elements<'a> {
 
     // The elements of a document or an array.
     pub(crate) fn of_frame(bytes: &'a [u8]) -> Elements<'a>
-        requires { HasElements bytes.now }
+        requires elements { HasElements bytes.now }
+        requires short { length bytes.now < 2 ^ 31 }
         ensures { parts_left result ≡ elements_in bytes.now }
     {
         Elements {

@@ -5,6 +5,7 @@ mod elem;
 mod elements;
 mod held;
 mod laws;
+mod value_ref;
 mod view;
 mod walk;
 
@@ -13,6 +14,7 @@ pub use elem::Elem;
 pub use elements::Elements;
 pub use held::{Held, HeldValue};
 pub use laws::{leaf_spelled_once, one_document, one_value};
+pub use value_ref::ValueRef;
 pub use view::View;
 pub use walk::{HeldField, HeldFields, HeldItems};
 

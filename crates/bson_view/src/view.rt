@@ -50,6 +50,14 @@ impl<'a> View<'a> {
         View { bytes }
     }
 
+    // The view of the bytes of a document in another one.
+    pub(crate) fn of_element(bytes: &'a [u8]) -> View<'a>
+        requires { IsTrue (is_document bytes.now) }
+        ensures { view_bytes result ≡ bytes.now }
+    {
+        View { bytes }
+    }
+
     /// The whole spelling.
     pub fn bytes(&self) -> &'a [u8]
         ensures bytes { result.now ≡ view_bytes self.now }

@@ -10,7 +10,7 @@ pub of_frame-requires : goal.of_frame-requires
 of_frame-requires c =
     let e = c.args.self.now in
     let nested : IsNested e.tag = elim c.if-self-eq3.branch [ then-self-eq3 w ↦ inl (search rules) | else-self-eq3 w ↦ inr (search rules) ] in
-    value_has e.tag e.value.now e.spelled nested
+    record { elements = value_has e.tag e.value.now e.spelled nested; short = e.short }
 
 pub returns-then-self-eq4 : goal.returns-then-self-eq4
 returns-then-self-eq4 c =

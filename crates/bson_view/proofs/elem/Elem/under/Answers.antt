@@ -7,10 +7,10 @@ use Rattle.bson_view.proofs.Bodies.{value_has, under_is, value_of_part}
 use Rattle.bson_view.proofs.elem.Elem.under.Goals as goal
 
 pub of_frame-requires : goal.of_frame-requires
-of_frame-requires c = value_has c.args.self.now.tag c.args.self.now.value.now c.args.self.now.spelled (inl c.in-3.is)
+of_frame-requires c = let e = c.args.self.now in record { elements = value_has e.tag e.value.now e.spelled (inl c.in-3.is); short = e.short }
 
 pub of_frame-requires-in-4 : goal.of_frame-requires-in-4
-of_frame-requires-in-4 c = value_has c.args.self.now.tag c.args.self.now.value.now c.args.self.now.spelled (inr c.in-4.is)
+of_frame-requires-in-4 c = let e = c.args.self.now in record { elements = value_has e.tag e.value.now e.spelled (inr c.in-4.is); short = e.short }
 
 pub returns-in-3-clause-value : goal.returns-in-3-clause-value
 returns-in-3-clause-value c =

@@ -1,4 +1,5 @@
-use Rattle.std.proofs.Common.{◌+◌, ◌<◌, List, ◌∷◌, ℕ, length, sym, ap, subst, ◌∙◌, rules, arith}
+use Rattle.std.proofs.Common.{◌+◌, ◌-◌, ◌<◌, List, ◌∷◌, ℕ, length, take, drop, sym, ap, subst, ◌∙◌, rules, arith}
+use Rattle.std.proofs.lemmas.List.{length-take, length-drop}
 use Rattle.std.specs.Prelude.{IsTrue}
 use Rattle.bson_view.specs.Meaning.{is_value}
 use Rattle.bson_view.specs.Parts.{AreElements, parts_of}
@@ -21,7 +22,10 @@ invariant_of-self c =
     let i = c.in_ok-zero.zero in
     let there : ∥ AreElements (tag ∷ bytes) ∥₁ = subst (λ (z : List ℕ). ∥ AreElements z ∥₁) c.in_ok-tag.ensures.cases.0 c.args.self.now.spelled in
     let cut = rest_cut tag i bytes _ c.after-rest.result.now (sym c.in_ok-zero.ensures.place) (to_the_end (i + 1) bytes) c.after-rest.ensures.place in
-    record { spelled = subst (λ (z : List ℕ). ∥ AreElements z ∥₁) cut (left_on tag bytes there) }
+    record {
+      spelled = subst (λ (z : List ℕ). ∥ AreElements z ∥₁) cut (left_on tag bytes there);
+      short = omega (arith, c.after-rest.ensures.fits, c.args.self.now.short, ap length c.in_ok-tag.ensures.cases.0, length-take (length bytes - (i + 1)) (drop (i + 1) bytes), length-drop (i + 1) bytes);
+    }
 
 pub invariant_of-result : goal.invariant_of-result
 invariant_of-result c =
@@ -30,7 +34,11 @@ invariant_of-result c =
     let i = c.in_ok-zero.zero in
     let there : ∥ AreElements (tag ∷ bytes) ∥₁ = subst (λ (z : List ℕ). ∥ AreElements z ∥₁) c.in_ok-tag.ensures.cases.0 c.args.self.now.spelled in
     let cut = value_cut tag i bytes _ c.after-rest.result.now (sym c.in_ok-zero.ensures.place) (to_the_end (i + 1) bytes) c.after-rest.ensures.place in
-    record { spelled = subst (λ (z : List ℕ). IsTrue (is_value tag z)) cut (value_on tag bytes there) }
+    let behind = take (length bytes - (i + 1)) (drop (i + 1) bytes) in
+    record {
+      spelled = subst (λ (z : List ℕ). IsTrue (is_value tag z)) cut (value_on tag bytes there);
+      short = omega (arith, length-take (length behind - length c.after-rest.result.now) behind, c.args.self.now.short, ap length c.in_ok-tag.ensures.cases.0, length-take (length bytes - (i + 1)) (drop (i + 1) bytes), length-drop (i + 1) bytes);
+    }
 
 pub returns-clause-steps : goal.returns-clause-steps
 returns-clause-steps c =
