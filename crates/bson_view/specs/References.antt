@@ -52,6 +52,10 @@ abbrev pub stamp_in : ValueRef → Option Ts
 stamp_in (refs.Stamp s) = Some s
 stamp_in _ = None
 
+abbrev pub object_in : ValueRef → Option (List (List ℕ × Value))
+object_in (refs.Object h) = Some (held_document h)
+object_in _ = None
+
 -- the type of a value that holds no document and no array
 abbrev pub HasLeafType : ℕ → Type 0
 HasLeafType tag = (tag ≡ 3 → ⊥) × (tag ≡ 4 → ⊥) × (tag ≡ 15 → ⊥)

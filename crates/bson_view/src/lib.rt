@@ -5,6 +5,7 @@ mod elem;
 mod elements;
 mod held;
 mod laws;
+mod leaf;
 mod value_ref;
 mod view;
 mod walk;

@@ -1,17 +1,16 @@
 //! A value that is read where it lies.
 ghost use Rattle.std.specs.Prelude.{◌≡◌, option_map};
-ghost use Rattle.bson_view.specs.Meaning.{value_in};
 ghost use Rattle.bson_view.specs.Views.{elem_value};
-ghost use Rattle.bson_view.specs.References.{HasLeafType, value_meant, str_in, int_in, long_in, bool_in, stamp_in};
+ghost use Rattle.bson_view.specs.References.{value_meant, str_in, int_in, long_in, bool_in, object_in, stamp_in};
+ghost use Rattle.bson_view.specs.Held.{held_document, held_value};
 
 use crate::elem::Elem;
-use crate::held::Held;
+use crate::held::{Held, HeldValue};
+use crate::leaf::leaf;
 use crate::view::View;
 use crate::walk::HeldItems;
-use bson_check::parts::{
-    binary, eight, long, number_of, pointer, regex, run, sixteen, stamp, text, twelve,
-};
-use bson_value::Ts;
+use bson_check::parts::text;
+use bson_value::{Ts, Value};
 
 /// A value, with its texts and bytes lent from where they lie.
 #[derive(Clone, Copy)]
@@ -80,6 +79,16 @@ impl<'a> ValueRef<'a> {
         }
     }
 
+    /// The document, where the value is one.
+    pub fn as_document(&self) -> Option<Held<'a>>
+        ensures { option_map held_document result ≡ object_in self.now }
+    {
+        match *self {
+            ValueRef::Object(document) => Some(document),
+            _ => None,
+        }
+    }
+
     /// The timestamp, where the value is one.
     pub fn as_ts(&self) -> Option<Ts>
         ensures { result ≡ stamp_in self.now }
@@ -88,178 +97,6 @@ impl<'a> ValueRef<'a> {
             ValueRef::Stamp(ts) => Some(ts),
             _ => None,
         }
-    }
-}
-
-#[tactic(auto, unfolding(crate::specs::Meaning::value_in, crate::specs::Meaning::read_value, bson_check::specs::Reading::value_with))]
-fn double(bytes: &[u8]) -> ValueRef<'_>
-    ensures { value_meant result ≡ value_in 1 bytes.now }
-{
-    match run(8, bytes.len(), bytes) {
-        Ok((run, _)) => ValueRef::Double(eight(run)),
-        Err(_) => ValueRef::Null,
-    }
-}
-
-#[tactic(auto, unfolding(crate::specs::Meaning::value_in, crate::specs::Meaning::read_value, bson_check::specs::Reading::value_with))]
-fn string(bytes: &[u8]) -> ValueRef<'_>
-    ensures { value_meant result ≡ value_in 2 bytes.now }
-{
-    match text(bytes.len(), bytes) {
-        Ok((text, _)) => ValueRef::Str(text),
-        Err(_) => ValueRef::Null,
-    }
-}
-
-#[tactic(auto, unfolding(crate::specs::Meaning::value_in, crate::specs::Meaning::read_value, bson_check::specs::Reading::value_with))]
-fn binary_data(bytes: &[u8]) -> ValueRef<'_>
-    ensures { value_meant result ≡ value_in 5 bytes.now }
-{
-    match binary(bytes.len(), bytes) {
-        Ok((subtype, bytes, _)) => ValueRef::Binary { subtype, bytes },
-        Err(_) => ValueRef::Null,
-    }
-}
-
-#[tactic(auto, unfolding(crate::specs::Meaning::value_in, crate::specs::Meaning::read_value, bson_check::specs::Reading::value_with))]
-fn object_id(bytes: &[u8]) -> ValueRef<'_>
-    ensures { value_meant result ≡ value_in 7 bytes.now }
-{
-    match run(12, bytes.len(), bytes) {
-        Ok((run, _)) => ValueRef::Oid(twelve(run)),
-        Err(_) => ValueRef::Null,
-    }
-}
-
-#[tactic(auto, unfolding(crate::specs::Meaning::value_in, crate::specs::Meaning::read_value, bson_check::specs::Reading::value_with, bson_check::specs::Reading::bool_at))]
-fn truth(bytes: &[u8]) -> ValueRef<'_>
-    ensures { value_meant result ≡ value_in 8 bytes.now }
-{
-    match bytes {
-        [0, ..] => ValueRef::Bool(false),
-        [1, ..] => ValueRef::Bool(true),
-        _ => ValueRef::Null,
-    }
-}
-
-#[tactic(auto, unfolding(crate::specs::Meaning::value_in, crate::specs::Meaning::read_value, bson_check::specs::Reading::value_with))]
-fn date(bytes: &[u8]) -> ValueRef<'_>
-    ensures { value_meant result ≡ value_in 9 bytes.now }
-{
-    match run(8, bytes.len(), bytes) {
-        Ok((run, _)) => ValueRef::Date(long(run)),
-        Err(_) => ValueRef::Null,
-    }
-}
-
-#[tactic(auto, unfolding(crate::specs::Meaning::value_in, crate::specs::Meaning::read_value, bson_check::specs::Reading::value_with))]
-fn regular_expression(bytes: &[u8]) -> ValueRef<'_>
-    ensures { value_meant result ≡ value_in 11 bytes.now }
-{
-    match regex(bytes.len(), bytes) {
-        Ok(pair) => ValueRef::Regex {
-            pattern: pair.first,
-            options: pair.second,
-        },
-        Err(_) => ValueRef::Null,
-    }
-}
-
-#[tactic(auto, unfolding(crate::specs::Meaning::value_in, crate::specs::Meaning::read_value, bson_check::specs::Reading::value_with))]
-fn db_pointer(bytes: &[u8]) -> ValueRef<'_>
-    ensures { value_meant result ≡ value_in 12 bytes.now }
-{
-    match pointer(bytes.len(), bytes) {
-        Ok((ns, id, _)) => ValueRef::DbPointer { ns, id: twelve(id) },
-        Err(_) => ValueRef::Null,
-    }
-}
-
-#[tactic(auto, unfolding(crate::specs::Meaning::value_in, crate::specs::Meaning::read_value, bson_check::specs::Reading::value_with))]
-fn code(bytes: &[u8]) -> ValueRef<'_>
-    ensures { value_meant result ≡ value_in 13 bytes.now }
-{
-    match text(bytes.len(), bytes) {
-        Ok((text, _)) => ValueRef::Code(text),
-        Err(_) => ValueRef::Null,
-    }
-}
-
-#[tactic(auto, unfolding(crate::specs::Meaning::value_in, crate::specs::Meaning::read_value, bson_check::specs::Reading::value_with))]
-fn symbol(bytes: &[u8]) -> ValueRef<'_>
-    ensures { value_meant result ≡ value_in 14 bytes.now }
-{
-    match text(bytes.len(), bytes) {
-        Ok((text, _)) => ValueRef::Symbol(text),
-        Err(_) => ValueRef::Null,
-    }
-}
-
-#[tactic(auto, unfolding(crate::specs::Meaning::value_in, crate::specs::Meaning::read_value, bson_check::specs::Reading::value_with, bson_check::specs::Reading::int_at))]
-fn number(bytes: &[u8]) -> ValueRef<'_>
-    ensures { value_meant result ≡ value_in 16 bytes.now }
-{
-    if bytes.len() < 4 {
-        return ValueRef::Null;
-    }
-    ValueRef::Int(number_of(bytes).cast_signed())
-}
-
-#[tactic(auto, unfolding(crate::specs::Meaning::value_in, crate::specs::Meaning::read_value, bson_check::specs::Reading::value_with))]
-fn timestamp(bytes: &[u8]) -> ValueRef<'_>
-    ensures { value_meant result ≡ value_in 17 bytes.now }
-{
-    match run(8, bytes.len(), bytes) {
-        Ok((run, _)) => ValueRef::Stamp(stamp(run)),
-        Err(_) => ValueRef::Null,
-    }
-}
-
-#[tactic(auto, unfolding(crate::specs::Meaning::value_in, crate::specs::Meaning::read_value, bson_check::specs::Reading::value_with))]
-fn long_number(bytes: &[u8]) -> ValueRef<'_>
-    ensures { value_meant result ≡ value_in 18 bytes.now }
-{
-    match run(8, bytes.len(), bytes) {
-        Ok((run, _)) => ValueRef::Long(long(run)),
-        Err(_) => ValueRef::Null,
-    }
-}
-
-#[tactic(auto, unfolding(crate::specs::Meaning::value_in, crate::specs::Meaning::read_value, bson_check::specs::Reading::value_with))]
-fn decimal(bytes: &[u8]) -> ValueRef<'_>
-    ensures { value_meant result ≡ value_in 19 bytes.now }
-{
-    match run(16, bytes.len(), bytes) {
-        Ok((run, _)) => ValueRef::Decimal(sixteen(run)),
-        Err(_) => ValueRef::Null,
-    }
-}
-
-// A value that holds no document and no array.
-#[tactic(auto, unfolding(crate::specs::Meaning::value_in, crate::specs::Meaning::read_value, bson_check::specs::Reading::value_with))]
-fn leaf(tag: u8, bytes: &[u8]) -> ValueRef<'_>
-    requires { HasLeafType tag }
-    ensures { value_meant result ≡ value_in tag bytes.now }
-{
-    match tag {
-        1 => double(bytes),
-        2 => string(bytes),
-        5 => binary_data(bytes),
-        6 => ValueRef::Undefined,
-        7 => object_id(bytes),
-        8 => truth(bytes),
-        9 => date(bytes),
-        11 => regular_expression(bytes),
-        12 => db_pointer(bytes),
-        13 => code(bytes),
-        14 => symbol(bytes),
-        16 => number(bytes),
-        17 => timestamp(bytes),
-        18 => long_number(bytes),
-        19 => decimal(bytes),
-        255 => ValueRef::MinKey,
-        127 => ValueRef::MaxKey,
-        _ => ValueRef::Null,
     }
 }
 
@@ -302,6 +139,58 @@ impl<'a> Elem<'a> {
             4 => array(self),
             15 => scoped_code(self),
             tag => leaf(tag, self.value),
+        }
+    }
+}
+
+fn built(value: &Value) -> ValueRef<'_>
+    ensures { value_meant result ≡ value.now }
+{
+    match value {
+        Value::Double(bits) => ValueRef::Double(*bits),
+        Value::Str(text) => ValueRef::Str(text.as_str()),
+        Value::Object(doc) => ValueRef::Object(Held::Built(doc)),
+        Value::Array(items) => ValueRef::Array(HeldItems::Built(items.as_slice())),
+        Value::Binary { subtype, bytes } => ValueRef::Binary {
+            subtype: *subtype,
+            bytes: bytes.as_slice(),
+        },
+        Value::Undefined => ValueRef::Undefined,
+        Value::Oid(id) => ValueRef::Oid(*id),
+        Value::Bool(truth) => ValueRef::Bool(*truth),
+        Value::Date(millis) => ValueRef::Date(*millis),
+        Value::Null => ValueRef::Null,
+        Value::Regex { pattern, options } => ValueRef::Regex {
+            pattern: pattern.as_str(),
+            options: options.as_str(),
+        },
+        Value::DbPointer { ns, id } => ValueRef::DbPointer {
+            ns: ns.as_str(),
+            id: *id,
+        },
+        Value::Code(code) => ValueRef::Code(code.as_str()),
+        Value::Symbol(text) => ValueRef::Symbol(text.as_str()),
+        Value::ScopedCode { code, scope } => ValueRef::ScopedCode {
+            code: code.as_str(),
+            scope: Held::Built(scope),
+        },
+        Value::Int(number) => ValueRef::Int(*number),
+        Value::Stamp(ts) => ValueRef::Stamp(*ts),
+        Value::Long(number) => ValueRef::Long(*number),
+        Value::Decimal(bits) => ValueRef::Decimal(*bits),
+        Value::MinKey => ValueRef::MinKey,
+        Value::MaxKey => ValueRef::MaxKey,
+    }
+}
+
+impl<'a> HeldValue<'a> {
+    /// The value, with what is in it lent from where it is held.
+    pub fn read(&self) -> ValueRef<'a>
+        ensures { value_meant result ≡ held_value self.now }
+    {
+        match *self {
+            HeldValue::Spelled(elem) => elem.read(),
+            HeldValue::Built(value) => built(value),
         }
     }
 }
