@@ -30,6 +30,12 @@ elements-push [] e = append-nil (element (e.0, spelling e.1))
 elements-push (f ∷ fs) e =
     ap (λ (b : List ℕ). element (f.0, spelling f.1) ++ b) (elements-push fs e) ∙ sym (append_assoc (element (f.0, spelling f.1)) (elements_of fs) (element (e.0, spelling e.1)))
 
+-- one more field
+pub fields_more : (fs : List (List ℕ × Value)) (i : ℕ) (e : List ℕ × Value) → i < length fs → e ≡ get_or fs i e → elements_of (take (i + 1) fs) ≡ elements_of (take i fs) ++ element (e.0, spelling e.1)
+fields_more fs i e lt at =
+    let more : take (i + 1) fs ≡ take i fs ++ e ∷ [] = take_more fs i e lt ∙ rw (← at) refl in
+    ap elements_of more ∙ elements-push (take i fs) e
+
 -- the step of the loop over the fields
 pub field_put : (old now new : List ℕ) (fs : List (List ℕ × Value)) (i : ℕ) (e : List ℕ × Value) → now ≡ old ++ elements_of (take i fs) → i < length fs → e ≡ get_or fs i e
     → new ≡ now ++ element (e.0, spelling e.1) → new ≡ old ++ elements_of (take (i + 1) fs)

@@ -1,6 +1,7 @@
 //! Documents of BSON and their bytes.
 #![tactic(auto)]
 
+mod key;
 mod laws;
 mod reading;
 mod writing;
@@ -10,9 +11,10 @@ pub use bson_check::{
     faultless_if_spelled, levels_needed, spelled_once,
 };
 pub use bson_value::{Bytes, CText, Doc, Fields, List, NsName, Text, Ts, Value, same_up_to_order};
+pub use key::cmp_key;
 pub use laws::spelling_spells;
 pub use reading::decode;
-pub use writing::{encode, type_of};
+pub use writing::{encode, encode_into, put_key, type_of};
 
 #[cfg(test)]
 mod tests;

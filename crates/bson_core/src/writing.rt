@@ -3,10 +3,12 @@ ghost use Rattle.std.specs.Prelude.{◌≡◌, ◌+◌, ◌-◌, ◌<◌, ◌≤
 ghost use Rattle.std.specs.Str.{is_utf8};
 ghost use Rattle.std.specs.List.{AllByRecursion};
 ghost use Rattle.bson_check.specs.Spells.{IsName, Spells};
+ghost use Rattle.bson_core.specs.Key.{key_of};
 ghost use Rattle.bson_value.specs.WellFormed.{IsWellFormed, AreWellFormedItems, AreWellFormedFields, IsWellFormedDocument};
 ghost use Rattle.bson_value.specs.Spelling.{spelling, tag_of, spelled, typed_fields, numbered, counted, text_bytes, elements_of, items_of, element, count_bytes, framed, document_text};
 
 use bson_value::{Bytes, CText, Doc, Text, Value};
+use itoa::Buffer;
 use std::alloc::{AllocError, Global};
 
 // Writes the count of the bytes from `start` on, there.
@@ -95,9 +97,9 @@ pub fn type_of(value: &Value) -> u8
 
 #[tactic(auto, using(bson_value::proofs::WellFormed::well_formed))]
 #[cycle(encode)]
-fn put_value(alloc: Global, out: &mut Vec<u8>, value: &Value) -> Result<(), AllocError>
+fn put_value(out: &mut Vec<u8>, value: &Value) -> Result<(), AllocError>
     ensures bytes { OnOk result (out.new.items ≡ out.old.items ++ spelled value.now) }
-    ensures kept { OnOk result (IsWellFormed value.now) }
+    ensures well_formed { OnOk result (IsWellFormed value.now) }
 {
     match value {
         Value::Double(d) => {
@@ -105,8 +107,8 @@ fn put_value(alloc: Global, out: &mut Vec<u8>, value: &Value) -> Result<(), Allo
             Ok(())
         }
         Value::Str(text) => put_text(out, text),
-        Value::Object(doc) => put_document(alloc, out, doc),
-        Value::Array(items) => put_array(alloc, out, items.as_slice()),
+        Value::Object(doc) => put_document(out, doc),
+        Value::Array(items) => put_array(out, items.as_slice()),
         Value::Binary { subtype, bytes } => put_binary(out, *subtype, bytes.as_slice()),
         Value::Undefined => Ok(()),
         Value::Oid(id) => {
@@ -133,7 +135,7 @@ fn put_value(alloc: Global, out: &mut Vec<u8>, value: &Value) -> Result<(), Allo
         }
         Value::Code(text) => put_text(out, text),
         Value::Symbol(text) => put_text(out, text),
-        Value::ScopedCode { code, scope } => put_scoped(alloc, out, code, scope),
+        Value::ScopedCode { code, scope } => put_scoped(out, code, scope),
         Value::Int(n) => {
             out.extend_from_slice(&n.to_le_bytes())?;
             Ok(())
@@ -157,106 +159,120 @@ fn put_value(alloc: Global, out: &mut Vec<u8>, value: &Value) -> Result<(), Allo
 }
 
 #[cycle(encode)]
-fn put_scoped(alloc: Global, out: &mut Vec<u8>, code: &Text, scope: &Doc) -> Result<(), AllocError>
+fn put_scoped(out: &mut Vec<u8>, code: &Text, scope: &Doc) -> Result<(), AllocError>
     ensures bytes { OnOk result (out.new.items ≡ out.old.items ++ counted (text_bytes code.now ++ document_text scope.now)) }
-    ensures kept { OnOk result ((is_utf8 code.now ≡ true) × IsWellFormedDocument scope.now) }
+    ensures well_formed { OnOk result ((is_utf8 code.now ≡ true) × IsWellFormedDocument scope.now) }
 {
     let start = out.len();
     out.extend_from_slice(&[0, 0, 0, 0])?;
     put_text(out, code)?;
-    put_document(alloc, out, scope)?;
+    put_document(out, scope)?;
     patch(out, start);
     Ok(())
 }
 
 #[cycle(encode)]
-fn put_document(alloc: Global, out: &mut Vec<u8>, doc: &Doc) -> Result<(), AllocError>
+fn put_document(out: &mut Vec<u8>, doc: &Doc) -> Result<(), AllocError>
     ensures bytes { OnOk result (out.new.items ≡ out.old.items ++ document_text doc.now) }
-    ensures kept { OnOk result (IsWellFormedDocument doc.now) }
+    ensures well_formed { OnOk result (IsWellFormedDocument doc.now) }
 {
     let start = out.len();
     out.extend_from_slice(&[0, 0, 0, 0])?;
-    put_fields(alloc, out, doc.entries())?;
+    put_fields(out, doc.entries())?;
     out.push(0)?;
     patch(out, start);
     Ok(())
 }
 
 #[cycle(encode)]
-fn put_array(alloc: Global, out: &mut Vec<u8>, items: &[Value]) -> Result<(), AllocError>
+fn put_array(out: &mut Vec<u8>, items: &[Value]) -> Result<(), AllocError>
     ensures bytes { OnOk result (out.new.items ≡ out.old.items ++ framed (items_of items.now)) }
-    ensures kept { OnOk result (AreWellFormedItems items.now) }
+    ensures well_formed { OnOk result (AreWellFormedItems items.now) }
 {
     let start = out.len();
     out.extend_from_slice(&[0, 0, 0, 0])?;
-    put_items(alloc, out, items)?;
+    put_items(out, items)?;
     out.push(0)?;
     patch(out, start);
     Ok(())
 }
 
 #[cycle(encode)]
-fn put_fields(alloc: Global, out: &mut Vec<u8>, fields: &[(CText, Value)]) -> Result<(), AllocError>
+fn put_fields(out: &mut Vec<u8>, fields: &[(CText, Value)]) -> Result<(), AllocError>
     ensures bytes { OnOk result (out.new.items ≡ out.old.items ++ elements_of fields.now) }
-    ensures kept { OnOk result (AllByRecursion (λ e. IsName e.0) fields.now × AreWellFormedFields fields.now) }
+    ensures well_formed { OnOk result (AllByRecursion (λ e. IsName e.0) fields.now × AreWellFormedFields fields.now) }
 {
     for field in fields {
-        put_field(alloc, out, field)?;
+        put_field(out, field)?;
     }
     Ok(())
 }
 
 #[cycle(encode)]
-fn put_field(alloc: Global, out: &mut Vec<u8>, field: &(CText, Value)) -> Result<(), AllocError>
+fn put_field(out: &mut Vec<u8>, field: &(CText, Value)) -> Result<(), AllocError>
     ensures bytes { OnOk result (out.new.items ≡ out.old.items ++ element (field.now.0, spelling field.now.1)) }
-    ensures kept { OnOk result (IsName field.now.0 × IsWellFormed field.now.1) }
+    ensures well_formed { OnOk result (IsName field.now.0 × IsWellFormed field.now.1) }
 {
     let name = name_of(&field.0);
-    put_element(alloc, out, name.as_bytes(), &field.1)
+    put_element(out, name.as_bytes(), &field.1)
 }
 
 #[cycle(encode)]
-fn put_items(alloc: Global, out: &mut Vec<u8>, items: &[Value]) -> Result<(), AllocError>
+fn put_items(out: &mut Vec<u8>, items: &[Value]) -> Result<(), AllocError>
     ensures bytes { OnOk result (out.new.items ≡ out.old.items ++ items_of items.now) }
-    ensures kept { OnOk result (AreWellFormedItems items.now) }
+    ensures well_formed { OnOk result (AreWellFormedItems items.now) }
 {
     for i in 0..items.len() {
-        let name = i.to_string(alloc)?;
-        put_element(alloc, out, name.as_bytes(), &items[i])?;
+        let mut digits = Buffer::new();
+        put_element(out, digits.format(i).as_bytes(), &items[i])?;
     }
     Ok(())
 }
 
 #[cycle(encode)]
-fn put_element(
-    alloc: Global,
-    out: &mut Vec<u8>,
-    name: &[u8],
-    value: &Value,
-) -> Result<(), AllocError>
+fn put_element(out: &mut Vec<u8>, name: &[u8], value: &Value) -> Result<(), AllocError>
     ensures bytes { OnOk result (out.new.items ≡ out.old.items ++ element (name.now, spelling value.now)) }
-    ensures kept { OnOk result (IsWellFormed value.now) }
+    ensures well_formed { OnOk result (IsWellFormed value.now) }
 {
     out.push(type_of(value))?;
     out.extend_from_slice(name)?;
     out.push(0)?;
-    put_value(alloc, out, value)
+    put_value(out, value)
 }
 
 fn whole(alloc: Global, doc: &Doc) -> Result<Bytes, AllocError>
     ensures bytes { IfOk result (λ bytes. bytes ≡ document_text doc.now) }
-    ensures kept { OnOk result (IsWellFormedDocument doc.now) }
+    ensures well_formed { OnOk result (IsWellFormedDocument doc.now) }
 {
-    let mut out = Vec::new(alloc);
-    put_document(alloc, &mut out, doc)?;
+    let mut out = Vec::with_capacity(alloc, doc.spelling_len())?;
+    put_document(&mut out, doc)?;
     Ok(Bytes::from_vec(out))
 }
 
 /// The spelling of the document, with array names "0", "1" and so on. A length is written modulo
-/// 2 ^ 32, so a document of 2 ^ 31 bytes or more isn't read again.
+/// 2 ^ 32, so a document of 2 ^ 31 bytes or more isn't read again. It asks for memory once.
 pub fn encode(alloc: Global, doc: &Doc) -> Result<Bytes, AllocError>
     ensures bytes { IfOk result (λ bytes. bytes ≡ document_text doc.now) }
     ensures spells { IfOk result (λ bytes. length bytes < 2 ^ 31 → Spells bytes doc.now) }
 {
     whole(alloc, doc)
+}
+
+/// Appends the spelling of the document, as `encode` makes it. It asks for memory once at most. After
+/// an error a part of the spelling may stand behind what was there.
+pub fn encode_into(out: &mut Vec<u8>, doc: &Doc) -> Result<(), AllocError>
+    ensures { OnOk result (out.new.items ≡ out.old.items ++ document_text doc.now) }
+{
+    out.reserve(doc.spelling_len())?;
+    put_document(out, doc)
+}
+
+/// Appends the key of an `_id`: its type byte and its spelling. It asks for memory once at most. After
+/// an error a part of the key may stand behind what was there.
+pub fn put_key(out: &mut Vec<u8>, id: &Value) -> Result<(), AllocError>
+    ensures { OnOk result (out.new.items ≡ out.old.items ++ key_of id.now) }
+{
+    out.reserve(id.spelling_len().saturating_add(1))?;
+    out.push(type_of(id))?;
+    put_value(out, id)
 }

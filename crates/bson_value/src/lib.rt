@@ -5,6 +5,7 @@ mod copy;
 mod fields;
 mod index;
 mod laws;
+mod length;
 mod namespace;
 mod order;
 mod size;

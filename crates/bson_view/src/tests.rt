@@ -171,10 +171,10 @@ fn a_path_through_an_array(rt: HostRuntime) -> Result<(), Fail> {
     )?;
     let view = View::check(&bytes, 1000, 3)?;
     let elem = view
-        .get(Path::read(rt.alloc(), "a.0.b")?.names())
+        .get(&names_of(rt.alloc(), "a.0.b")?)
         .ok_or("no element")?;
     assert_eq!(rt; (elem.tag, elem.value), (16, [7, 0, 0, 0].as_slice()));
-    assert!(rt; view.get(Path::read(rt.alloc(), "a.1")?.names()).is_none());
+    assert!(rt; view.get(&names_of(rt.alloc(), "a.1")?).is_none());
     Ok(())
 }
 
@@ -182,11 +182,9 @@ fn a_path_through_an_array(rt: HostRuntime) -> Result<(), Fail> {
 fn array_names_are_passed_over(rt: HostRuntime) -> Result<(), Fail> {
     let bytes = unhex(rt.alloc(), "10000000046100080000000a78000000")?;
     let view = View::check(&bytes, bytes.len(), 2)?;
-    let elem = view
-        .get(Path::read(rt.alloc(), "a.0")?.names())
-        .ok_or("no element")?;
+    let elem = view.get(&names_of(rt.alloc(), "a.0")?).ok_or("no element")?;
     assert_eq!(rt; (elem.name, elem.tag), (b"x".as_slice(), 10));
-    assert!(rt; view.get(Path::read(rt.alloc(), "a.x")?.names()).is_none());
+    assert!(rt; view.get(&names_of(rt.alloc(), "a.x")?).is_none());
     Ok(())
 }
 

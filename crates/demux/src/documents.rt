@@ -11,9 +11,6 @@ use archive_prelude::{Meta, PreludeFault, read_header, read_meta};
 use bson_core::{BsonFault, DecodeFault, Doc, MAX_DOCUMENT_BYTES, MAX_LEVELS, check, decode};
 use std::alloc::Global;
 
-// The most levels of a document.
-
-
 /// The bytes are a document.
 #[tactic(auto, unfolding(archive_format::specs::Archive::fault_in, archive_format::specs::Archive::fields_of, bson_check::specs::Faults::first_fault))]
 pub fn checked(at: u64, bytes: &[u8]) -> Result<(), DemuxFault>

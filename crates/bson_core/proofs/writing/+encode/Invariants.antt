@@ -35,11 +35,11 @@ abbrev pub invariant-put_fields-loop-field : goal.invariant-put_fields-loop-fiel
 invariant-put_fields-loop-field l = record {
   bytes : l.out.items ≡ l.fn.out.items ++ elements_of (take l.field-index l.fields);
   names : AllByRecursion (λ e. IsName e.0) (take l.field-index l.fields);
-  kept : AreWellFormedFields (take l.field-index l.fields);
+  well_formed : AreWellFormedFields (take l.field-index l.fields);
 }
 
 abbrev pub invariant-put_items-loop-i : goal.invariant-put_items-loop-i
 invariant-put_items-loop-i l = record {
-  bytes : l.out.items ≡ l.fn.out.items ++ items_of (take l.i-counter l.items);
-  kept : AreWellFormedItems (take l.i-counter l.items);
+  bytes : l.out.items ≡ l.fn.out.items ++ items_of (take l.i l.items);
+  well_formed : AreWellFormedItems (take l.i l.items);
 }
