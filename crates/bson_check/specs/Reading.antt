@@ -253,6 +253,11 @@ document_of max depth bytes =
     else (if nat_lt (number bytes) (length bytes) then fails kinds.Length 0
     else (document_at depth (length bytes) bytes >>= λ x. Ok x.0)))))
 
+-- what was read, without what is left
+abbrev pub read_of : {A : Type 0} → Taken A → Result A BsonFault
+read_of (Ok x) = Ok x.0
+read_of (Err e) = Err e
+
 -- what is left of what was read, and whether something was read, without the value
 abbrev pub rests : {A : Type 0} → Taken A → Result (List ℕ) BsonFault
 rests (Ok x) = Ok x.1

@@ -7,65 +7,22 @@ ghost use Rattle.bson_check.specs.Spells.{SpellsWithin};
 ghost use Rattle.bson_check.specs.Faults.{IsFault, first_fault};
 ghost use Rattle.bson_value.specs.declared.value.Value.{Value as Datum};
 ghost use Rattle.bson_check.specs.Passing.{count_of, jump};
-ghost use Rattle.bson_check.specs.Reading.{Gives, Reads, number, int_at, bool_at, text_at, frame_at, Frame, name_at, named, is_type, field_at, item_at, fields_at, items_at, value_at, document_at, array_at, scoped_at, document_of, run_at, long_of, stamp_of, raw_at, binary_at, cut_at, regex_at, pointer_at, scope_at, total_at, Scoped};
+ghost use Rattle.bson_check.specs.Reading.{Gives, Reads, read_of, number, int_at, bool_at, text_at, frame_at, Frame, name_at, named, is_type, field_at, item_at, fields_at, items_at, value_at, document_at, array_at, scoped_at, document_of, run_at, long_of, stamp_of, raw_at, binary_at, cut_at, regex_at, pointer_at, scope_at, total_at, Scoped};
 
 use bson_check::parts::{
-    binary, boolean, frame, head, int, is_type, name, number_of, pointer, regex, run, text, total,
+    binary, boolean, eight, frame, head, int, is_type, long, name, number_of, pointer, regex, run,
+    sixteen, stamp, text, total, twelve,
 };
 use bson_check::passing::after;
 use bson_check::repeats::{first_fault, first_repeat};
 use bson_check::{BsonFault, BsonKind, DecodeFault};
-use bson_value::{Bytes, CText, Doc, Fields, List, Text, Ts, Value};
+use bson_value::{Bytes, CText, Doc, Fields, List, Text, Value};
 use std::alloc::Global;
 
 fn bad(kind: BsonKind, at: usize) -> DecodeFault
     ensures { result ≡ DecodeFault.Bad (record { kind = kind; at = at }) }
 {
     DecodeFault::Bad(BsonFault { kind, at })
-}
-
-fn eight(run: &[u8]) -> [u8; 8]
-    requires { length run.now ≡ 8 }
-    ensures { result ≡ run.now }
-{
-    let mut out = [0; 8];
-    out.copy_from_slice(run);
-    out
-}
-
-fn twelve(run: &[u8]) -> [u8; 12]
-    requires { length run.now ≡ 12 }
-    ensures { result ≡ run.now }
-{
-    let mut out = [0; 12];
-    out.copy_from_slice(run);
-    out
-}
-
-fn sixteen(run: &[u8]) -> [u8; 16]
-    requires { length run.now ≡ 16 }
-    ensures { result ≡ run.now }
-{
-    let mut out = [0; 16];
-    out.copy_from_slice(run);
-    out
-}
-
-fn long(run: &[u8]) -> i64
-    requires { length run.now ≡ 8 }
-    ensures { result ≡ long_of run.now }
-{
-    i64::from_le_bytes(eight(run))
-}
-
-fn stamp(run: &[u8]) -> Ts
-    requires { length run.now ≡ 8 }
-    ensures { result ≡ stamp_of run.now }
-{
-    Ts {
-        secs: number_of(&run[4..]),
-        inc: number_of(run),
-    }
 }
 
 #[tactic(auto, unfolding(bson_check::specs::Reading::value_with, bson_check::specs::Passing::jump))]
@@ -308,6 +265,14 @@ fn whole(alloc: Global, bytes: &[u8], max: usize, depth: usize) -> Result<Doc, D
     }
     let (doc, _) = document(alloc, depth, len, bytes)?;
     Ok(doc)
+}
+
+/// The value of this type that the bytes begin with, whatever its size and depth.
+pub fn decode_value(alloc: Global, tag: u8, bytes: &[u8]) -> Result<Value, DecodeFault>
+    ensures { Gives (λ v. v) result (read_of (value_at (length bytes.now) tag (length bytes.now) bytes.now)) }
+{
+    let (value, _) = value(alloc, bytes.len(), tag, bytes.len(), bytes)?;
+    Ok(value)
 }
 
 /// The document that the bytes spell, all of the bytes, of at most `max` bytes and `depth` levels.

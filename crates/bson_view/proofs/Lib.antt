@@ -8,3 +8,4 @@ pub mod Leaves
 pub mod Scopes
 pub mod Nested
 pub mod OtherTypes
+pub mod TextNames

@@ -5,7 +5,9 @@ use Rattle.std.specs.Result.{result_err}
 use Rattle.std.proofs.lemmas.List.{append-nil}
 use Rattle.bson_value.specs.declared.value.Value.{Value, out-Value}
 use Rattle.bson_check.specs.declared.fault.BsonFault.{BsonFault}
-use Rattle.bson_check.specs.Reading.{Taken, document_of, document_at, array_at, scoped_at, value_at}
+use Rattle.bson_check.specs.declared.fault.DecodeFault.{DecodeFault}
+use Rattle.bson_check.specs.declared.fault.DecodeFault.TheVariants as errors
+use Rattle.bson_check.specs.Reading.{Taken, Fails, read_of, document_of, document_at, array_at, scoped_at, value_at}
 use Rattle.bson_check.specs.Spells.{Spells, SpellsWithin, type_byte, AreBytesOf, IsDocument, IsArray}
 use Rattle.bson_check.specs.Faults.{first_fault}
 use Rattle.bson_check.proofs.Again.{CanRead, value_again, document_again, array_again, scoped_again}
@@ -98,3 +100,16 @@ checked_value tag b e =
     let t = value_found (IsDocument n) (IsArray n) (document_at n) (array_at n) (scoped_at n) (document_found n) (array_found n) (scoped_found n) tag n b (v, []) (ended (value_at n tag n b) e) in
     let whole : t.spelling ≡ b = sym (append-nil t.spelling) ∙ sym t.parts in
     record { levels = n; kind = t.kind; spells = subst (λ (x : List ℕ). AreBytesOf (IsDocument n) (IsArray n) x (out-Value v)) whole t.spells }
+
+-- reading bytes of a value gives it
+pub value_there : (tag : ℕ) (b : List ℕ) → IsTrue (is_value tag b) → value_at (length b) tag (length b) b ≡ Ok (value_in tag b, [])
+unfolding is_value value_in read_value
+value_there tag b e = ended (value_at (length b) tag (length b) b) e
+
+pub read_is : (tag : ℕ) (b : List ℕ) (v : Value) → IsTrue (is_value tag b) → read_of (value_at (length b) tag (length b) b) ≡ Ok v → v ≡ value_in tag b
+read_is tag b v valid e = let f = sym (ap read_of (value_there tag b valid)) ∙ e in cc
+
+pub never_bad : (tag : ℕ) (b : List ℕ) (e : DecodeFault) (f : BsonFault) → IsTrue (is_value tag b) → e ≡ errors.Bad f → Fails e (read_of (value_at (length b) tag (length b) b)) → ⊥
+never_bad tag b e f valid is fails =
+    let h : read_of (value_at (length b) tag (length b) b) ≡ Err f = rw is at fails in
+    let g = sym (ap read_of (value_there tag b valid)) ∙ h in absurd cc

@@ -4,9 +4,11 @@ use Rattle.bson_value.specs.declared.value.Value.{Value}
 use Rattle.bson_value.specs.declared.value.Value.TheOpen.{Value-F}
 use Rattle.bson_view.specs.declared.walk.HeldField.{HeldField}
 use Rattle.bson_view.specs.declared.walk.HeldFields.{HeldFields}
-use Rattle.bson_view.specs.declared.walk.HeldFields.TheVariants as fields
+use Rattle.bson_view.specs.declared.walk.FieldWalk.{FieldWalk}
+use Rattle.bson_view.specs.declared.walk.FieldWalk.TheVariants as fields
 use Rattle.bson_view.specs.declared.walk.HeldItems.{HeldItems}
 use Rattle.bson_view.specs.declared.walk.HeldItems.TheVariants as items
+use Rattle.bson_view.specs.FieldWalk.{field_parts}
 use Rattle.bson_view.specs.Held.{held_value}
 use Rattle.bson_view.specs.Parts.{values_of, fields_of}
 use Rattle.bson_view.specs.Views.{parts_left}
@@ -14,9 +16,12 @@ use Rattle.bson_view.specs.Views.{parts_left}
 abbrev pub field_of : HeldField → List ℕ × Value
 field_of f = (f.name.now, held_value f.value)
 
+abbrev pub walk_left : FieldWalk → List (List ℕ × Value)
+walk_left (fields.Spelled fs) = fields_of (field_parts fs)
+walk_left (fields.Built es) = es.now
+
 abbrev pub fields_left : HeldFields → List (List ℕ × Value)
-fields_left (fields.Spelled es) = fields_of (parts_left es)
-fields_left (fields.Built es) = es.now
+fields_left fs = walk_left fs.walk
 
 abbrev pub items_left : HeldItems → List Value
 items_left (items.Spelled es) = values_of (parts_left es)

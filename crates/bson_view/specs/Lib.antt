@@ -2,6 +2,8 @@ pub mod Meaning
 pub mod Parts
 pub mod Paths
 pub mod Views
+pub mod Kept
+pub mod FieldWalk
 pub mod Held
 pub mod HeldWalk
 pub mod References

@@ -1,6 +1,7 @@
 -- The elements of a document or an array as parts of its bytes.
-use Rattle.std.specs.Prelude.{◌≡◌, ℕ, zero, suc, ◌-◌, ◌<◌, ◌≤◌, List, [], ◌∷◌, ◌++◌, length, take, drop, map, Contains}
+use Rattle.std.specs.Prelude.{◌≡◌, ℕ, Bool, true, ◌&&◌, zero, suc, ◌-◌, ◌<◌, ◌≤◌, List, [], ◌∷◌, ◌++◌, length, take, drop, map, Contains}
 use Rattle.std.specs.List.{flat_map}
+use Rattle.std.specs.Str.{is_utf8}
 use Rattle.bson_value.specs.declared.value.Value.{Value, out-Value}
 use Rattle.bson_value.specs.declared.value.Value.TheOpen.{Value-F}
 use Rattle.bson_value.specs.Spelling.{text_bytes}
@@ -54,6 +55,11 @@ parts_of bytes = parts_in (length bytes) bytes
 abbrev pub AreNames : List Part → Type 0
 AreNames [] = Unit {0}
 AreNames (p ∷ ps) = (Contains p.name 0 → ⊥) × AreNames ps
+
+-- each name is a text
+abbrev pub have_text_names : List Part → Bool
+have_text_names [] = true
+have_text_names (p ∷ ps) = is_utf8 p.name && have_text_names ps
 
 -- what stands between the length and the last zero
 abbrev pub body_of : List ℕ → List ℕ

@@ -1,5 +1,5 @@
 //! An element of a document or an array.
-ghost use Rattle.std.specs.Prelude.{◌≡◌, ◌<◌, ◌^◌, length, Some, IfSome, IsTrue, option_map};
+ghost use Rattle.std.specs.Prelude.{◌≡◌, ◌<◌, ◌^◌, length, Some, IfOk, IfSome, IsTrue, option_map};
 ghost use Rattle.bson_value.specs.declared.value.Value.{out-Value};
 ghost use Rattle.bson_value.specs.Spelling.{spelled, tag_of};
 ghost use Rattle.bson_view.specs.Meaning.{is_value, AreBytes, AreValue, IsLeaf};
@@ -7,7 +7,10 @@ ghost use Rattle.bson_view.specs.Meaning.{is_value, AreBytes, AreValue, IsLeaf};
 use crate::elements::Elements;
 use crate::view::View;
 use bson_check::passing::after;
-use bson_value::CText;
+use bson_check::DecodeFault;
+use bson_core::decode_value;
+use bson_value::{CText, Value};
+use std::alloc::{AllocError, Global};
 
 /// An element of a document or an array, with the bytes of its value. The name of an array's element
 /// may be any bytes: its place counts, and not its name.
@@ -39,6 +42,17 @@ impl<'a> Elem<'a> {
         ensures leaf { IsLeaf (out-Value (elem_value self.now)) → self.now.value.now ≡ spelled (elem_value self.now) }
     {
         are_bytes(self.value);
+    }
+
+    /// A copy of the value in memory of its own.
+    pub fn to_value(&self, alloc: Global) -> Result<Value, AllocError>
+        ensures { IfOk result (λ v. v ≡ elem_value self.now) }
+    {
+        match decode_value(alloc, self.tag, self.value) {
+            Ok(value) => Ok(value),
+            Err(DecodeFault::NoMemory) => Err(AllocError),
+            Err(DecodeFault::Bad(_)) => unreachable!(),
+        }
     }
 
     /// The elements of a document or an array, in order. Any other value has none, also a code with a

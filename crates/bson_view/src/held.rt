@@ -1,5 +1,5 @@
 //! Documents that are spelled in bytes or built as values, read in the same way.
-ghost use Rattle.std.specs.Prelude.{◌≡◌, Some, option_map};
+ghost use Rattle.std.specs.Prelude.{◌≡◌, Some, IfOk, option_map};
 ghost use Rattle.std.specs.Option.{option_copied};
 ghost use Rattle.containers.specs.Entries.{lookup};
 ghost use Rattle.bson_value.specs.declared.value.Value.{out-Value};
@@ -15,6 +15,7 @@ use crate::view::View;
 use crate::walk::{HeldFields, HeldItems};
 use bson_core::type_of;
 use bson_value::{CText, Doc, List, Value, index_of};
+use std::alloc::{AllocError, Global};
 
 /// A document that is spelled in borrowed bytes, or one that was built.
 #[derive(Clone, Copy)]
@@ -62,8 +63,8 @@ impl<'a> Held<'a> {
         ensures { fields_left result ≡ held_document self.now }
     {
         match *self {
-            Held::Spelled(view) => HeldFields::Spelled(view.elements()),
-            Held::Built(doc) => HeldFields::Built(doc.entries()),
+            Held::Spelled(view) => HeldFields::spelled(view.fields()),
+            Held::Built(doc) => HeldFields::built(doc.entries()),
         }
     }
 }
@@ -94,10 +95,9 @@ fn under_built<'a>(value: &'a Value, name: &str) -> Option<&'a Value>
 fn fields_spelled<'a>(elem: &Elem<'a>) -> Option<HeldFields<'a>>
     ensures { option_map fields_left result ≡ fields_in (out-Value (elem_value elem.now)) }
 {
-    if elem.tag == 3 {
-        Some(HeldFields::Spelled(elem.elements()))
-    } else {
-        None
+    match elem.document() {
+        Some(view) => Some(HeldFields::spelled(view.fields())),
+        None => None,
     }
 }
 
@@ -105,7 +105,7 @@ fn fields_built(value: &Value) -> Option<HeldFields<'_>>
     ensures { option_map fields_left result ≡ fields_in (out-Value value.now) }
 {
     match value {
-        Value::Object(doc) => Some(HeldFields::Built(doc.entries())),
+        Value::Object(doc) => Some(HeldFields::built(doc.entries())),
         _ => None,
     }
 }
@@ -142,6 +142,16 @@ impl<'a> HeldValue<'a> {
                 elem.tag
             }
             HeldValue::Built(value) => type_of(value),
+        }
+    }
+
+    /// A copy of the value in memory of its own.
+    pub fn to_value(&self, alloc: Global) -> Result<Value, AllocError>
+        ensures { IfOk result (λ v. v ≡ held_value self.now) }
+    {
+        match *self {
+            HeldValue::Spelled(elem) => elem.to_value(alloc),
+            HeldValue::Built(value) => value.copy(alloc),
         }
     }
 

@@ -9,6 +9,7 @@ ghost use Rattle.bson_view.specs.Meaning.{is_document, AreValue};
 
 use crate::elem::Elem;
 use crate::elements::Elements;
+use crate::fields::Fields;
 use bson_check::{BsonFault, check};
 use bson_value::{CText, List};
 
@@ -21,6 +22,7 @@ pub struct View<'a> {
 
 impl<'a> View<'a> {
     ghost use Rattle.bson_view.specs.Views.{view_bytes, document, elem_part, elem_value, parts_left};
+    ghost use Rattle.bson_view.specs.FieldWalk.{field_parts};
     ghost use Rattle.bson_view.specs.Parts.{bytes_of, fields_of, elements_in};
     ghost use Rattle.bson_view.specs.Paths.{value_at, part_named, part_at};
 
@@ -74,6 +76,13 @@ impl<'a> View<'a> {
         ensures parts { parts_left result ≡ elements_in (view_bytes self.now) }
     {
         Elements::of_frame(self.bytes)
+    }
+
+    /// The fields in order.
+    pub fn fields(&self) -> Fields<'a>
+        ensures { fields_of (field_parts result) ≡ document self.now }
+    {
+        Fields::of(self)
     }
 
     /// The field of this name.

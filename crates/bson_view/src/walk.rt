@@ -1,20 +1,50 @@
 //! Walks over the fields of a document and the values of an array, spelled or built.
+ghost use Rattle.std.specs.Prelude.{◌≡◌};
+
 use crate::elements::Elements;
+use crate::fields::Fields;
 use crate::held::HeldValue;
 use bson_value::{CText, Value};
 
 /// The fields of a document that are still to come, in order.
 #[derive(Clone, Copy)]
-pub enum HeldFields<'a> {
-    Spelled(Elements<'a>),
+pub struct HeldFields<'a> {
+    walk: FieldWalk<'a>,
+}
+
+#[derive(Clone, Copy)]
+enum FieldWalk<'a> {
+    Spelled(Fields<'a>),
     Built(&'a [(CText, Value)]),
 }
 
-/// A field of a document: its name, which is a text, and its value.
+/// A field of a document: its name and its value.
 #[derive(Clone, Copy)]
 pub struct HeldField<'a> {
-    pub name: &'a [u8],
+    pub name: &'a str,
     pub value: HeldValue<'a>,
+}
+
+impl<'a> HeldFields<'a> {
+    ghost use Rattle.bson_view.specs.FieldWalk.{field_parts};
+    ghost use Rattle.bson_view.specs.HeldWalk.{fields_left};
+    ghost use Rattle.bson_view.specs.Parts.{fields_of};
+
+    pub(crate) fn spelled(fields: Fields<'a>) -> HeldFields<'a>
+        ensures { fields_left result ≡ fields_of (field_parts fields.entry) }
+    {
+        HeldFields {
+            walk: FieldWalk::Spelled(fields),
+        }
+    }
+
+    pub(crate) fn built(entries: &'a [(CText, Value)]) -> HeldFields<'a>
+        ensures { fields_left result ≡ entries.now }
+    {
+        HeldFields {
+            walk: FieldWalk::Built(entries),
+        }
+    }
 }
 
 impl<'a> Iterator for HeldFields<'a> {
@@ -28,20 +58,20 @@ impl<'a> Iterator for HeldFields<'a> {
     ghost remaining = { item_count fields_left };
 
     fn next(&mut self) -> Option<HeldField<'a>> {
-        match *self {
-            HeldFields::Spelled(mut elements) => {
-                let elem = elements.next()?;
-                *self = HeldFields::Spelled(elements);
+        match self.walk {
+            FieldWalk::Spelled(mut fields) => {
+                let field = fields.next()?;
+                *self = HeldFields::spelled(fields);
                 Some(HeldField {
-                    name: elem.name,
-                    value: HeldValue::Spelled(elem),
+                    name: field.name,
+                    value: HeldValue::Spelled(field.elem),
                 })
             }
-            HeldFields::Built(entries) => {
+            FieldWalk::Built(entries) => {
                 let (first, rest) = entries.split_first()?;
-                *self = HeldFields::Built(rest);
+                *self = HeldFields::built(rest);
                 Some(HeldField {
-                    name: first.0.as_str().as_bytes(),
+                    name: first.0.as_str(),
                     value: HeldValue::Built(&first.1),
                 })
             }
