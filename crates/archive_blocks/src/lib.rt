@@ -3,8 +3,6 @@
 
 mod crc;
 mod heads;
-#[cfg(test)]
-mod tests;
 mod writer;
 
 pub use crc::Crc;

@@ -4,8 +4,6 @@
 mod fault;
 mod prelude;
 mod reading;
-#[cfg(test)]
-mod tests;
 mod writing;
 
 pub use fault::PreludeFault;

@@ -1,8 +1,7 @@
 //! The worked bytes of checksums, headers and blocks.
-ghost use Rattle.std.specs.Prelude.{◌<◌};
-
-use super::*;
-use bson_core::{Bytes, List, MAX_DOCUMENT_BYTES, NsName, Text, check};
+use archive_blocks::{BlockWriter, Crc, read_ns_head};
+use bson_check::{MAX_DOCUMENT_BYTES, check};
+use bson_value::{Bytes, List, NsName, Text};
 use std::alloc::{AllocError, Global};
 use std::test::Fail;
 use tool_io::{Fault, MemSink};
@@ -27,25 +26,6 @@ WrongType = 300000000264620002000000610002636f6c6c656374696f6e000200000062000845
 BadNs = 290000000264620004000000612e620002636f6c6c656374696f6e0002000000630008454f46000000
 ";
 
-fn digit(c: u8) -> u8
-    ensures { result < 16 }
-{
-    match c {
-        b'0'..=b'9' => c - b'0',
-        b'a'..=b'f' => c - b'a' + 10,
-        _ => 0,
-    }
-}
-
-fn unhex(alloc: Global, text: &str) -> Result<Vec<u8>, AllocError> {
-    let digits = text.as_bytes();
-    let mut bytes = Vec::new(alloc);
-    for at in 0..digits.len() / 2 {
-        bytes.push(digit(digits[2 * at]) * 16 + digit(digits[2 * at + 1]))?;
-    }
-    Ok(bytes)
-}
-
 // The header as a line, of bytes that are a document.
 #[tactic(auto, unfolding(archive_format::specs::Archive::fault_in, archive_format::specs::Archive::fields_of, bson_check::specs::Faults::first_fault))]
 fn told(alloc: Global, bytes: &[u8]) -> Result<String, AllocError> {
@@ -65,7 +45,7 @@ fn headers_of_blocks(rt: HostRuntime) -> Result<(), Fail> {
     let alloc = rt.alloc();
     for line in HEADS.lines() {
         let (expected, digits) = line.split_once(" = ").ok_or("no bytes")?;
-        let bytes = unhex(alloc, digits)?;
+        let bytes = hex::decode(alloc, digits)?;
         assert_eq!(rt; told(alloc, &bytes)?.as_str(), expected, "{digits}");
     }
     Ok(())
@@ -96,16 +76,16 @@ fn blocks_and_ends_of_a_namespace(rt: HostRuntime) -> Result<(), Fail> {
     let mut docs = List::new(alloc);
     assert_eq!(rt; writer(alloc)?.block(&docs, &mut sink), Ok(()));
     assert_eq!(rt; writer(alloc)?.end(&mut sink), Ok(()));
-    assert_eq!(rt; sink.written(), unhex(alloc, END)?.as_slice());
+    assert_eq!(rt; sink.written(), hex::decode(alloc, END)?.as_slice());
 
-    docs.push(Bytes::of(alloc, &unhex(alloc, "0e000000105f6964000100000000")?)?)?;
+    docs.push(Bytes::of(alloc, &hex::decode(alloc, "0e000000105f6964000100000000")?)?)?;
     let mut sink = MemSink::new(alloc, Vec::new(alloc));
     let mut writer = writer(alloc)?;
     assert_eq!(rt; writer.block(&docs, &mut sink), Ok(()));
-    assert_eq!(rt; sink.written(), unhex(alloc, BLOCK)?.as_slice());
+    assert_eq!(rt; sink.written(), hex::decode(alloc, BLOCK)?.as_slice());
     let mut sink = MemSink::new(alloc, Vec::new(alloc));
     assert_eq!(rt; writer.end(&mut sink), Ok(()));
-    assert_eq!(rt; sink.written(), unhex(alloc, END_BEHIND)?.as_slice());
+    assert_eq!(rt; sink.written(), hex::decode(alloc, END_BEHIND)?.as_slice());
     let mut sink = MemSink::new(alloc, [2].to_vec(alloc)?);
     assert_eq!(rt; writer.block(&docs, &mut sink), Err(Fault::Failed));
     // The write of the terminator failed.

@@ -2,8 +2,8 @@
 ghost use Rattle.std.specs.Prelude.{◌≡◌, ◌<◌, OnOk, IsErrOf};
 ghost use Rattle.tool_io.specs.Causes.{Rose};
 
-use super::*;
 use bson_value::NsName;
+use demux::{Demux, DemuxFault, DocTaker, Halt};
 use std::alloc::{AllocError, Global};
 use std::test::Fail;
 use tool_io::{MemSource, Source};
@@ -88,23 +88,10 @@ fn digits_of(word: &str) -> &str {
     }
 }
 
-fn digit(c: u8) -> u8
-    ensures { result < 16 }
-{
-    match c {
-        b'0'..=b'9' => c - b'0',
-        b'a'..=b'f' => c - b'a' + 10,
-        _ => 0,
-    }
-}
-
-fn bytes_of(alloc: Global, words: &str) -> Result<Vec<u8>, AllocError> {
+fn bytes_of(alloc: Global, words: &str) -> Result<Vec<u8>, Fail> {
     let mut bytes = Vec::new(alloc);
     for word in words.split(' ') {
-        let digits = digits_of(word).as_bytes();
-        for at in 0..digits.len() / 2 {
-            bytes.push(digit(digits[2 * at]) * 16 + digit(digits[2 * at + 1]))?;
-        }
+        bytes.extend_from_slice(&hex::decode(alloc, digits_of(word))?)?;
     }
     Ok(bytes)
 }

@@ -1,7 +1,8 @@
-use super::*;
+//! Ends in memory and over the streams of std.
 use std::io;
 use std::io::{Read, Write};
-use std::test::*;
+use std::test::Fail;
+use tool_io::{Fault, MemSink, MemSource, Sink, Source, StdSink, StdSource};
 
 #[test]
 fn a_source_in_memory_gives_pieces_and_fails(rt: HostRuntime) -> Result<(), Fail> {

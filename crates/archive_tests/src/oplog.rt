@@ -1,6 +1,6 @@
 //! Rings of one and of few entries.
-use super::*;
-use bson_core::{Bytes, Ts};
+use bson_value::{Bytes, Ts};
+use capped_oplog::CappedOplog;
 use std::test::Fail;
 
 #[test]

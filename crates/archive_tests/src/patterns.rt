@@ -1,6 +1,6 @@
 //! Names, the patterns that take them, and what they are renamed to.
-use super::{Pattern, PatternFault};
-use bson_core::NsName;
+use bson_value::NsName;
+use ns_patterns::{Pattern, PatternFault};
 use std::test::Fail;
 
 // Each line has a pattern, whether it takes the name, and the name.

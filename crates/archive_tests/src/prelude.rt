@@ -1,9 +1,9 @@
 //! The worked bytes of a prelude.
-ghost use Rattle.std.specs.Prelude.{◌<◌};
-
-use super::*;
-use bson_core::{List, MAX_DOCUMENT_BYTES, NsName, Text, decode};
-use std::alloc::{AllocError, Global};
+use archive_prelude::{Meta, Prelude, PreludeFault, read_header, read_meta, write};
+use bson_check::MAX_DOCUMENT_BYTES;
+use bson_core::decode;
+use bson_value::{List, NsName, Text};
+use std::alloc::Global;
 use std::test::Fail;
 use tool_io::{Fault, MemSink};
 
@@ -18,23 +18,10 @@ const META: &str =
 
 const STOP: &str = "ffffffff";
 
-fn digit(c: u8) -> u8
-    ensures { result < 16 }
-{
-    match c {
-        b'0'..=b'9' => c - b'0',
-        b'a'..=b'f' => c - b'a' + 10,
-        _ => 0,
-    }
-}
-
-fn unhex(alloc: Global, texts: &[&str]) -> Result<Vec<u8>, AllocError> {
+fn items(alloc: Global, texts: &[&str]) -> Result<Vec<u8>, Fail> {
     let mut bytes = Vec::new(alloc);
     for text in texts {
-        let digits = text.as_bytes();
-        for at in 0..digits.len() / 2 {
-            bytes.push(digit(digits[2 * at]) * 16 + digit(digits[2 * at + 1]))?;
-        }
+        bytes.extend_from_slice(&hex::decode(alloc, *text)?)?;
     }
     Ok(bytes)
 }
@@ -53,7 +40,7 @@ fn preludes_as_bytes(rt: HostRuntime) -> Result<(), Fail> {
     assert_eq!(rt; write(alloc, &prelude, &mut sink), Ok(()));
     assert_eq!(rt;
         sink.written(),
-        unhex(alloc, &[MAGIC, HEADER, STOP])?.as_slice()
+        items(alloc, &[MAGIC, HEADER, STOP])?.as_slice()
     );
 
     let ns = NsName {
@@ -66,21 +53,21 @@ fn preludes_as_bytes(rt: HostRuntime) -> Result<(), Fail> {
     assert_eq!(rt; write(alloc, &prelude, &mut sink), Ok(()));
     assert_eq!(rt;
         sink.written(),
-        unhex(alloc, &[MAGIC, HEADER, META, STOP])?.as_slice()
+        items(alloc, &[MAGIC, HEADER, META, STOP])?.as_slice()
     );
 
     // The write of the metadata fails.
     let mut sink = MemSink::new(alloc, [1].to_vec(alloc)?);
     assert_eq!(rt; write(alloc, &prelude, &mut sink), Err(Fault::Failed));
-    assert_eq!(rt; sink.written(), unhex(alloc, &[MAGIC, HEADER])?.as_slice());
+    assert_eq!(rt; sink.written(), items(alloc, &[MAGIC, HEADER])?.as_slice());
     Ok(())
 }
 
 #[test]
 fn documents_of_a_prelude(rt: HostRuntime) -> Result<(), Fail> {
     let alloc = rt.alloc();
-    let header = decode(alloc, &unhex(alloc, &[HEADER])?, MAX_DOCUMENT_BYTES, 200)?;
-    let meta = decode(alloc, &unhex(alloc, &[META])?, MAX_DOCUMENT_BYTES, 200)?;
+    let header = decode(alloc, &hex::decode(alloc, HEADER)?, MAX_DOCUMENT_BYTES, 200)?;
+    let meta = decode(alloc, &hex::decode(alloc, META)?, MAX_DOCUMENT_BYTES, 200)?;
     assert!(rt; read_header(alloc, &header).is_ok());
     let fault = format!(in alloc; "{:?}", read_header(alloc, &meta))?;
     assert_eq!(rt;

@@ -113,7 +113,7 @@ module _ (D : List ℕ → List (List ℕ × Value) → Type 0) (A : List ℕ �
   one_spelled Value-F.MinKey k h le small = refl
   one_spelled Value-F.MaxKey k h le small = refl
 
-  value_spelled : (v : Value) → IsWellFormed v → levels_in v ≤ n → length (spelled v) < 2 ^ 31 → AreBytesOf D A (spelled v) (out-Value v)
+  pub value_spelled : (v : Value) → IsWellFormed v → levels_in v ≤ n → length (spelled v) < 2 ^ 31 → AreBytesOf D A (spelled v) (out-Value v)
   value_spelled v k le small =
       let e = ap (λ (t : Typed). t.1) (spelling_out v) in
       subst (λ (b : List ℕ). AreBytesOf D A b (out-Value v)) (sym e)

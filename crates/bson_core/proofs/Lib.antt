@@ -1,3 +1,5 @@
 pub mod Spelled
 pub mod Grammar
 pub mod Comparing
+pub mod Keys
+pub mod Numbered

@@ -1,3 +1,4 @@
 pub mod Comparing
 pub mod Key
 pub mod Laws
+pub mod Numbered

@@ -12,7 +12,7 @@ pub use bson_check::{
 };
 pub use bson_value::{Bytes, CText, Doc, Fields, List, NsName, Text, Ts, Value, same_up_to_order};
 pub use key::cmp_key;
-pub use laws::spelling_spells;
+pub use laws::{equal_keys, one_numbered_spelling, spelling_spells};
 pub use reading::{decode, decode_value};
 pub use writing::{encode, encode_into, put_key, type_of};
 

@@ -6,8 +6,8 @@ ghost use Rattle.bson_view.specs.Meaning.{is_value, AreBytes, AreValue, IsLeaf};
 
 use crate::elements::Elements;
 use crate::view::View;
-use bson_check::passing::after;
 use bson_check::DecodeFault;
+use bson_check::passing::after;
 use bson_core::decode_value;
 use bson_value::{CText, Value};
 use std::alloc::{AllocError, Global};

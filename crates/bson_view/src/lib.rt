@@ -22,6 +22,3 @@ pub use laws::{leaf_spelled_once, one_document, one_value};
 pub use value_ref::ValueRef;
 pub use view::View;
 pub use walk::{HeldField, HeldFields, HeldItems};
-
-#[cfg(test)]
-mod tests;

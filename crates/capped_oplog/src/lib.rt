@@ -6,6 +6,3 @@ mod ring;
 
 pub use laws::keeps_the_longest_suffix;
 pub use ring::CappedOplog;
-
-#[cfg(test)]
-mod tests;

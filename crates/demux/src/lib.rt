@@ -8,8 +8,6 @@ mod run;
 mod seen;
 mod steps;
 mod taker;
-#[cfg(test)]
-mod tests;
 mod window;
 
 pub use archive_format::DemuxFault;

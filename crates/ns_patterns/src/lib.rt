@@ -3,7 +3,5 @@
 
 mod joined;
 mod pattern;
-#[cfg(test)]
-mod tests;
 
 pub use pattern::{Pattern, PatternFault};

@@ -12,6 +12,3 @@ mod standard;
 pub use ends::{Fault, Sink, Source};
 pub use memory::{MemSink, MemSource};
 pub use standard::{StdSink, StdSource};
-
-#[cfg(test)]
-mod tests;

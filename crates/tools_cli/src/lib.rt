@@ -9,8 +9,6 @@ mod top;
 mod words;
 
 pub use status::{ArchiveFault, Status};
+pub use texts::{HELP, VERSION};
 pub use top::tools;
 pub use words::{Choice, Command, Verb, WordsFault};
-
-#[cfg(test)]
-mod tests;

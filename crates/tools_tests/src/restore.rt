@@ -1,10 +1,8 @@
-ghost use Rattle.std.specs.Prelude.{◌<◌};
-
-use super::*;
-use crate::texts::{HELP, VERSION};
+//! Worked words and archives.
 use std::alloc::{AllocError, Global};
-use std::test::*;
+use std::test::Fail;
 use tool_io::{MemSink, MemSource};
+use tools_cli::{HELP, VERSION, tools};
 
 // The hexadecimal digits of an item of an archive.
 fn digits_of(word: &str) -> &str {
@@ -74,24 +72,11 @@ fn digits_of(word: &str) -> &str {
     }
 }
 
-fn digit(c: u8) -> u8
-    ensures { result < 16 }
-{
-    match c {
-        b'0'..=b'9' => c - b'0',
-        b'a'..=b'f' => c - b'a' + 10,
-        _ => 0,
-    }
-}
-
 // The bytes of these items. A word that names none is digits.
-fn bytes_of(alloc: Global, words: &str) -> Result<Vec<u8>, AllocError> {
+fn bytes_of(alloc: Global, words: &str) -> Result<Vec<u8>, Fail> {
     let mut bytes = Vec::new(alloc);
     for word in words.split(' ') {
-        let digits = digits_of(word).as_bytes();
-        for at in 0..digits.len() / 2 {
-            bytes.push(digit(digits[2 * at]) * 16 + digit(digits[2 * at + 1]))?;
-        }
+        bytes.extend_from_slice(&hex::decode(alloc, digits_of(word))?)?;
     }
     Ok(bytes)
 }

@@ -1,7 +1,7 @@
-use Rattle.std.proofs.Common.{◌≡◌, ap, sym, ◌∙◌, ◌∷◌, ◌++◌, ◌+◌, [], length, take, List, ℕ}
+use Rattle.std.proofs.Common.{ap, sym, ◌∙◌, ◌∷◌, ◌++◌, ◌+◌, [], length, take, List, ℕ}
 use Rattle.std.specs.Fmt.{decimal}
 use Rattle.bson_value.specs.declared.value.Value.{Value}
-use Rattle.bson_value.specs.Spelling.{count_bytes, counted, document_text, element, elements_of, items_of, spelled, spelling, tag_of, text_bytes}
+use Rattle.bson_value.specs.Spelling.{count_bytes, document_text, element, elements_of, items_of, spelled, spelling, text_bytes}
 use Rattle.bson_core.specs.Comparing.{step, behind}
 use Rattle.bson_core.proofs.Spelled.{items_more, fields_more}
 use Rattle.bson_core.proofs.Comparing.{State, on, then, decided_ne, framed_count, counted_count, spelled_regex, spelled_pointer}

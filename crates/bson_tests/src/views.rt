@@ -1,9 +1,9 @@
 //! Elements of worked documents, by names and by paths, and both kinds of documents that are held.
-ghost use Rattle.std.specs.Prelude.{◌<◌};
-
-use super::*;
-use bson_core::{BsonKind, CText, List, MAX_DOCUMENT_BYTES, decode};
-use std::alloc::{AllocError, Global};
+use bson_check::{BsonFault, BsonKind, MAX_DOCUMENT_BYTES};
+use bson_core::decode;
+use bson_value::{Bytes, CText, List, Ts, Value};
+use bson_view::{DocumentBytes, Elem, Held, HeldField, HeldValue, ValueRef, View};
+use std::alloc::Global;
 use std::test::Fail;
 
 // A document with a field of each kind of value.
@@ -67,32 +67,12 @@ fn names_of(alloc: Global, path: &str) -> Result<List<CText>, Fail> {
     Ok(names)
 }
 
-fn digit(c: u8) -> u8
-    ensures { result < 16 }
-{
-    match c {
-        b'0'..=b'9' => c - b'0',
-        b'a'..=b'f' => c - b'a' + 10,
-        _ => 0,
-    }
-}
-
-// The bytes that the hexadecimal digits of a text write.
-fn unhex(alloc: Global, text: &str) -> Result<Vec<u8>, AllocError> {
-    let digits = text.as_bytes();
-    let mut bytes = Vec::new(alloc);
-    for at in 0..digits.len() / 2 {
-        bytes.push(digit(digits[2 * at]) * 16 + digit(digits[2 * at + 1]))?;
-    }
-    Ok(bytes)
-}
-
 // The name or path, the type and the bytes that a line tells.
 fn told(alloc: Global, line: &str) -> Result<(&str, u8, Vec<u8>), Fail> {
     let (front, back) = line.split_once(" (").ok_or("no bytes")?;
     let (digits, _) = back.split_once(')').ok_or("no end of the bytes")?;
     let (path, tag) = front.split_once(' ').ok_or("no type")?;
-    Ok((path, tag.parse::<u8>()?, unhex(alloc, digits)?))
+    Ok((path, tag.parse::<u8>()?, hex::decode(alloc, digits)?))
 }
 
 fn is_elem(elem: Option<Elem<'_>>, tag: u8, value: &[u8]) -> bool {
@@ -118,7 +98,7 @@ fn has_type(value: Option<HeldValue<'_>>, tag: u8) -> bool {
 
 #[test]
 fn fields_of_every_kind(rt: HostRuntime) -> Result<(), Fail> {
-    let bytes = unhex(rt.alloc(), EVERY_KIND)?;
+    let bytes = hex::decode(rt.alloc(), EVERY_KIND)?;
     let view = View::check(&bytes, bytes.len(), 2)?;
     let mut elements = view.elements();
     for line in FIELDS.lines() {
@@ -135,7 +115,7 @@ fn fields_of_every_kind(rt: HostRuntime) -> Result<(), Fail> {
 
 #[test]
 fn paths_through_every_kind(rt: HostRuntime) -> Result<(), Fail> {
-    let bytes = unhex(rt.alloc(), EVERY_KIND)?;
+    let bytes = hex::decode(rt.alloc(), EVERY_KIND)?;
     let view = View::check(&bytes, bytes.len(), 2)?;
     let doc = decode(rt.alloc(), &bytes, bytes.len(), 2)?;
     for line in FIELDS.lines().chain(PLACES.lines()) {
@@ -150,7 +130,7 @@ fn paths_through_every_kind(rt: HostRuntime) -> Result<(), Fail> {
 
 #[test]
 fn paths_to_no_value(rt: HostRuntime) -> Result<(), Fail> {
-    let bytes = unhex(rt.alloc(), EVERY_KIND)?;
+    let bytes = hex::decode(rt.alloc(), EVERY_KIND)?;
     let view = View::check(&bytes, bytes.len(), 2)?;
     let doc = decode(rt.alloc(), &bytes, bytes.len(), 2)?;
     for text in NO_PLACES.lines() {
@@ -165,7 +145,7 @@ fn paths_to_no_value(rt: HostRuntime) -> Result<(), Fail> {
 // {a: [{b: 7}]}
 #[test]
 fn a_path_through_an_array(rt: HostRuntime) -> Result<(), Fail> {
-    let bytes = unhex(
+    let bytes = hex::decode(
         rt.alloc(),
         "1c000000046100140000000330000c00000010620007000000000000",
     )?;
@@ -180,7 +160,7 @@ fn a_path_through_an_array(rt: HostRuntime) -> Result<(), Fail> {
 
 #[test]
 fn array_names_are_passed_over(rt: HostRuntime) -> Result<(), Fail> {
-    let bytes = unhex(rt.alloc(), "10000000046100080000000a78000000")?;
+    let bytes = hex::decode(rt.alloc(), "10000000046100080000000a78000000")?;
     let view = View::check(&bytes, bytes.len(), 2)?;
     let elem = view.get(&names_of(rt.alloc(), "a.0")?).ok_or("no element")?;
     assert_eq!(rt; (elem.name, elem.tag), (b"x".as_slice(), 10));
@@ -189,7 +169,7 @@ fn array_names_are_passed_over(rt: HostRuntime) -> Result<(), Fail> {
 }
 
 fn is_field(field: &HeldField<'_>, name: &str, tag: u8) -> bool {
-    field.name == name.as_bytes()
+    field.name == name
         && field.value.tag() == tag
         && field.value.fields().is_some() == (tag == 3)
         && field.value.items().is_some() == (tag == 4)
@@ -216,7 +196,7 @@ fn has_items(held: Held<'_>) -> Result<bool, Fail> {
 
 #[test]
 fn walks_over_both_kinds(rt: HostRuntime) -> Result<(), Fail> {
-    let bytes = unhex(rt.alloc(), EVERY_KIND)?;
+    let bytes = hex::decode(rt.alloc(), EVERY_KIND)?;
     let view = View::check(&bytes, bytes.len(), 2)?;
     let doc = decode(rt.alloc(), &bytes, bytes.len(), 2)?;
     assert!(rt; has_fields(rt.alloc(), Held::Spelled(view))?);
@@ -228,7 +208,7 @@ fn walks_over_both_kinds(rt: HostRuntime) -> Result<(), Fail> {
 
 #[test]
 fn limits_and_faults(rt: HostRuntime) -> Result<(), Fail> {
-    let bytes = unhex(rt.alloc(), "0d000000036100050000000000")?;
+    let bytes = hex::decode(rt.alloc(), "0d000000036100050000000000")?;
     let deep = BsonFault {
         kind: BsonKind::Deep,
         at: 7,
@@ -245,5 +225,80 @@ fn limits_and_faults(rt: HostRuntime) -> Result<(), Fail> {
         Ok(_) => assert_eq!(rt; View::of(&bytes).bytes(), bytes.as_slice()),
         Err(_) => assert!(rt; false),
     }
+    Ok(())
+}
+
+fn read(held: Held<'_>, name: &str) -> Option<ValueRef<'_>> {
+    Some(held.field(name)?.read())
+}
+
+#[test]
+fn values_of_one_type(rt: HostRuntime) -> Result<(), Fail> {
+    let bytes = hex::decode(rt.alloc(), EVERY_KIND)?;
+    let view = View::check(&bytes, bytes.len(), 2)?;
+    let doc = decode(rt.alloc(), &bytes, bytes.len(), 2)?;
+    for held in [Held::Spelled(view), Held::Built(&doc)] {
+        let text = read(held, "string").ok_or("no string")?;
+        assert_eq!(rt; text.as_str(), Some("h\u{e9}\0llo"));
+        assert_eq!(rt; text.as_i32(), None);
+        let number = read(held, "int").ok_or("no int")?;
+        assert_eq!(rt; (number.as_i32(), number.as_i64()), (Some(-1), None));
+        let long = read(held, "long").ok_or("no long")?;
+        assert_eq!(rt; (long.as_i64(), long.as_i32()), (Some(i64::MIN), None));
+        let truth = read(held, "bool").ok_or("no bool")?;
+        assert_eq!(rt; (truth.as_bool(), truth.as_ts()), (Some(false), None));
+        let stamp = read(held, "stamp").ok_or("no stamp")?;
+        assert_eq!(rt; stamp.as_ts(), Some(Ts { secs: 1, inc: 2 }));
+        let object = read(held, "object").ok_or("no object")?.as_document();
+        let inner = object.ok_or("no document")?.field("x").ok_or("no x")?;
+        assert_eq!(rt; inner.read().as_i32(), Some(7));
+    }
+    Ok(())
+}
+
+#[test]
+fn copies_of_every_kind(rt: HostRuntime) -> Result<(), Fail> {
+    let bytes = hex::decode(rt.alloc(), EVERY_KIND)?;
+    let view = View::check(&bytes, bytes.len(), 2)?;
+    let doc = decode(rt.alloc(), &bytes, bytes.len(), 2)?;
+    for field in Held::Spelled(view).fields() {
+        let copy = field.value.to_value(rt.alloc())?;
+        let built = doc.get(field.name).ok_or("no such field")?;
+        assert!(rt; copy.same(built), "{}", field.name);
+        let again = HeldValue::Built(built).to_value(rt.alloc())?;
+        assert!(rt; again.same(built), "{}", field.name);
+    }
+    Ok(())
+}
+
+// The code is "g", and its scope {y: null}.
+#[test]
+fn parts_of_a_code_with_a_scope(rt: HostRuntime) -> Result<(), Fail> {
+    let bytes = hex::decode(rt.alloc(), EVERY_KIND)?;
+    let view = View::check(&bytes, bytes.len(), 2)?;
+    match read(Held::Spelled(view), "scoped") {
+        Some(ValueRef::ScopedCode { code, scope }) => {
+            assert_eq!(rt; code, "g");
+            assert!(rt; has_type(scope.field("y"), 10));
+        }
+        _ => return Err("no code".into()),
+    }
+    Ok(())
+}
+
+#[test]
+fn documents_kept_as_bytes(rt: HostRuntime) -> Result<(), Fail> {
+    let alloc = rt.alloc();
+    let bytes = Bytes::of(alloc, &hex::decode(alloc, EVERY_KIND)?)?;
+    let kept = DocumentBytes::check(bytes)?;
+    assert!(rt; kept.view().field("max").is_some());
+    let copy = DocumentBytes::of(alloc, kept.as_slice())?;
+    assert_eq!(rt; copy.into_bytes().as_slice(), kept.as_slice());
+    let short = DocumentBytes::check(Bytes::of(alloc, b"abc")?);
+    let fault = BsonFault {
+        kind: BsonKind::Short,
+        at: 3,
+    };
+    assert_eq!(rt; short.err(), Some(fault));
     Ok(())
 }

@@ -1,0 +1,5 @@
+//! Worked documents and values: what no clause of their crates says.
+#![tactic(auto)]
+
+#[cfg(test)]
+mod views;

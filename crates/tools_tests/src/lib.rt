@@ -1,0 +1,5 @@
+//! Worked words and inputs of the top call.
+#![tactic(auto)]
+
+#[cfg(test)]
+mod restore;
