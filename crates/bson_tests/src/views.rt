@@ -228,7 +228,7 @@ fn limits_and_faults(rt: HostRuntime) -> Result<(), Fail> {
     Ok(())
 }
 
-fn read(held: Held<'_>, name: &str) -> Option<ValueRef<'_>> {
+fn read<'a>(held: Held<'a>, name: &str) -> Option<ValueRef<'a>> {
     Some(held.field(name)?.read())
 }
 
