@@ -2,7 +2,7 @@
 ghost use Rattle.std.specs.Prelude.{◌≡◌, ◌+◌, ◌-◌, ◌<◌, ◌≤◌, ◌==◌, [], ◌∷◌, ◌++◌, length, slice_get, nat_lt, IfOk, IsTrue, ◌↔◌, MatchOption, option_map, if◌then◌else◌};
 ghost use Rattle.capped_oplog.specs.Ring.{AreRising, IsLater, IsPlaceOf, is_over, pushed, trimmed, stamp_at};
 
-use bson_core::{Bytes, Ts};
+use bson_value::{Bytes, Ts};
 use circular_buffer::HeapCircularBuffer;
 use std::alloc::{AllocError, Global};
 use std::marker::Model;

@@ -8,7 +8,9 @@ ghost use Rattle.demux.specs.Steps.{Unread};
 use archive_blocks::{NsHead, read_ns_head};
 use archive_format::DemuxFault;
 use archive_prelude::{Meta, PreludeFault, read_header, read_meta};
-use bson_core::{BsonFault, DecodeFault, Doc, MAX_DOCUMENT_BYTES, MAX_LEVELS, check, decode};
+use bson_check::{BsonFault, DecodeFault, MAX_DOCUMENT_BYTES, MAX_LEVELS, check};
+use bson_core::decode;
+use bson_value::Doc;
 use std::alloc::Global;
 
 /// The bytes are a document.

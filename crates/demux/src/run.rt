@@ -11,7 +11,7 @@ use crate::seen::Seen;
 use crate::taker::DocTaker;
 use crate::window::Window;
 use archive_format::{DemuxFault, Place};
-use bson_core::MAX_DOCUMENT_BYTES;
+use bson_check::MAX_DOCUMENT_BYTES;
 use std::alloc::{AllocError, Global};
 use tool_io::Source;
 

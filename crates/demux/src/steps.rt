@@ -11,7 +11,8 @@ use crate::seen::Seen;
 use crate::taker::Halt;
 use archive_format::{DemuxFault, Place};
 use archive_prelude::Meta;
-use bson_core::{BsonKind, NsName, Text};
+use bson_check::BsonKind;
+use bson_value::{NsName, Text};
 
 const MAGIC: [u8; 4] = [0x6d, 0xe2, 0x99, 0x81];
 

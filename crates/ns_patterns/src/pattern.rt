@@ -7,7 +7,7 @@ ghost use Rattle.ns_patterns.specs.Reading.{Gives};
 ghost use Rattle.ns_patterns.specs.Search.{whole, IsCut, IsUncut};
 
 use crate::joined::Joined;
-use bson_core::{List, NsName, Text};
+use bson_value::{List, NsName, Text};
 use std::alloc::{AllocError, Global};
 use std::marker::Model;
 use std::mem;

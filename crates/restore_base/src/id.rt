@@ -6,7 +6,9 @@ ghost use Rattle.bson_view.specs.Views.{elem_value};
 ghost use Rattle.restore_base.specs.Base.{has_id, id_key, document_taken};
 ghost use Rattle.restore_base.specs.Kept.{holds_values};
 
-use bson_core::{CText, DecodeFault, Doc, MAX_DOCUMENT_BYTES, MAX_LEVELS, Value, decode, encode};
+use bson_check::{DecodeFault, MAX_DOCUMENT_BYTES, MAX_LEVELS};
+use bson_core::{decode, encode};
+use bson_value::{CText, Doc, Value};
 use bson_view::{Elem, View};
 use std::alloc::{AllocError, Global};
 
