@@ -39,13 +39,13 @@ long_is z fits = record {
   value = ap (λ (n : ℕ). cast_signed w64 n) (from_le_bytes-to_le_bytes_8 (cast_unsigned w64 z) (omega (arith, Fits-of_z {w = w64} fits))) ∙ to_z-of_z {w = w64} fits;
 }
 
-framed_len : (body : List ℕ) → length (framed body) ≡ length body + 5
+pub framed_len : (body : List ℕ) → length (framed body) ≡ length body + 5
 framed_len body = omega (arith, length-append body (0 ∷ []))
 
 text_len : (t : List ℕ) → length (text_bytes t) ≡ length t + 5
 text_len t = omega (arith, length-append t (0 ∷ []))
 
-frame_is : (body : List ℕ) → length (framed body) < 2 ^ 31 → IsFrame (framed body) body
+pub frame_is : (body : List ℕ) → length (framed body) < 2 ^ 31 → IsFrame (framed body) body
 frame_is body small =
     let len = framed_len body in
     (count_bytes (length body + 5), subst (λ (n : ℕ). IsCount (count_bytes (length body + 5)) n) (sym len) (count_is (length body + 5) (omega (arith, len))), refl)
@@ -121,10 +121,10 @@ module _ (D : List ℕ → List (List ℕ × Value) → Type 0) (A : List ℕ �
 
   -- ---- elements
 
-  element_is : (m b others : List ℕ) → (m ++ (0 ∷ b)) ++ others ≡ (m ++ 0 ∷ []) ++ (b ++ others)
+  pub element_is : (m b others : List ℕ) → (m ++ (0 ∷ b)) ++ others ≡ (m ++ 0 ∷ []) ++ (b ++ others)
   element_is m b others = append_assoc m (0 ∷ b) others ∙ sym (append_assoc m (0 ∷ []) (b ++ others))
 
-  fields_spelled : (fs : List (List ℕ × Value)) → AllByRecursion (λ e. IsName e.0) fs → AreWellFormedFields fs → largest (map (λ e. levels_in e.1) fs) ≤ n → length (elements_of fs) < 2 ^ 31 → AreFields (λ c v. AreBytesOf D A c (out-Value v)) (elements_of fs) fs
+  pub fields_spelled : (fs : List (List ℕ × Value)) → AllByRecursion (λ e. IsName e.0) fs → AreWellFormedFields fs → largest (map (λ e. levels_in e.1) fs) ≤ n → length (elements_of fs) < 2 ^ 31 → AreFields (λ c v. AreBytesOf D A c (out-Value v)) (elements_of fs) fs
   fields_spelled [] names k le small = refl
   fields_spelled (e ∷ fs) names k le small =
       let b = spelled e.1 in

@@ -1,5 +1,5 @@
 -- Bytes that spell a document with the names "0", "1" and so on are its spelling.
-use Rattle.std.proofs.Common.{◌≡◌, ℕ, zero, suc, ◌+◌, ◌%◌, ◌<◌, ◌^◌, List, [], ◌∷◌, ◌++◌, length, map, refl, sym, ap, subst, ◌∙◌, append_assoc, arith}
+use Rattle.std.proofs.Common.{◌≡◌, ℕ, zero, suc, ◌+◌, ◌%◌, ◌<◌, ◌≤◌, ◌^◌, List, [], ◌∷◌, ◌++◌, length, map, refl, sym, ap, subst, ◌∙◌, append_assoc, arith}
 use Rattle.std.specs.Prelude.{ℤ}
 use Rattle.std.specs.Int.{w32, w64, from_le_bytes, to_le_bytes, cast_unsigned}
 use Rattle.std.specs.Fmt.{decimal}
@@ -10,8 +10,11 @@ use Rattle.bson_value.specs.Spelling.{Typed, count_bytes, document_text, element
 use Rattle.bson_value.specs.declared.value.Value.{Value, out-Value, map-Value}
 use Rattle.bson_value.specs.declared.value.Value.TheOpen.{Value-F}
 use Rattle.bson_check.specs.Spells.{IsCount, IsSigned, IsString, IsFrame, type_byte, AreBytesOf, AreFields}
-use Rattle.bson_core.specs.Numbered.{AreBytes, AreNumberedItems, IsNumberedDocument, IsNumberedArray, OneNumberedSpelling}
-use Rattle.bson_core.proofs.Grammar.{spelling_out, tag_is}
+use Rattle.bson_core.specs.Numbered.{AreBytes, AreNumberedItems, IsNumberedDocument, IsNumberedArray, OneNumberedSpelling, NumberedSpelling}
+use Rattle.bson_value.specs.Levels.{largest, levels_in, levels_of}
+use Rattle.bson_value.specs.WellFormed.{AreWellFormedItems, IsWellFormedDocument}
+use Rattle.bson_check.proofs.Height.{array_levels}
+use Rattle.bson_core.proofs.Grammar.{spelling_out, tag_is, frame_is, framed_len, element_is, fields_spelled, value_spelled}
 
 pub back_bytes : (a b : List ℕ) → AreBytes (a ++ b) → AreBytes b
 back_bytes a b h i = omega (arith, h (length a + i), get_or-append-add a b i 0)
@@ -143,3 +146,44 @@ mutual
 
 pub one_numbered : OneNumberedSpelling
 one_numbered bytes fs h s = document_back s.0 bytes fs h s.1
+
+-- ---- the spelling is one of these
+
+module _ (D : List ℕ → List (List ℕ × Value) → Type 0) (A : List ℕ → List Value → Type 0) (n : ℕ)
+    (documents : (fs : List (List ℕ × Value)) → IsWellFormedDocument fs → levels_of fs ≤ n → length (document_text fs) < 2 ^ 31 → D (document_text fs) fs)
+    (arrays : (vs : List Value) → AreWellFormedItems vs → array_levels vs ≤ n → length (framed (items_of vs)) < 2 ^ 31 → A (framed (items_of vs)) vs) where
+  items_numbered : (i : ℕ) (vs : List Value) → AreWellFormedItems vs → largest (map levels_in vs) ≤ n → length (numbered i (map spelling vs)) < 2 ^ 31 → AreNumberedItems (λ c v. AreBytesOf D A c (out-Value v)) i (numbered i (map spelling vs)) vs
+  items_numbered i [] k le small = refl
+  items_numbered i (v ∷ vs) k le small =
+      let b = spelled v in
+      let others = numbered (i + 1) (map spelling vs) in
+      let parts = element_is D A n documents arrays (decimal i) b others in
+      let len : length (numbered i (map spelling (v ∷ vs))) ≡ suc (length (decimal i ++ 0 ∷ []) + (length b + length others)) = omega (arith, ap length parts, length-append (decimal i ++ 0 ∷ []) (b ++ others), length-append b others) in (
+        b,
+        others,
+        value_spelled D A n documents arrays v k.0 (omega (arith, le)) (omega (arith, small, len)),
+        items_numbered (i + 1) vs k.1 (omega (arith, le)) (omega (arith, small, len)),
+        ap (λ (t : ℕ). t ∷ ((decimal i ++ (0 ∷ b)) ++ others)) (sym (tag_is v)) ∙ ap (λ (r : List ℕ). type_byte (out-Value v) ∷ r) parts,
+      )
+
+mutual
+  unfolding IsNumberedDocument
+
+  document_numbered : (n : ℕ) (fs : List (List ℕ × Value)) → IsWellFormedDocument fs → levels_of fs ≤ n → length (document_text fs) < 2 ^ 31 → IsNumberedDocument n (document_text fs) fs
+  document_numbered zero fs k le small = absurd (omega (arith, le))
+  document_numbered (suc n) fs k le small = (
+    elements_of fs,
+    frame_is (elements_of fs) small,
+    fields_spelled (IsNumberedDocument n) (IsNumberedArray n) n (document_numbered n) (array_numbered n) fs k.0.1 k.1 (omega (arith, le)) (omega (arith, small, framed_len (elements_of fs))),
+  )
+
+  array_numbered : (n : ℕ) (vs : List Value) → AreWellFormedItems vs → array_levels vs ≤ n → length (framed (items_of vs)) < 2 ^ 31 → IsNumberedArray n (framed (items_of vs)) vs
+  array_numbered zero vs k le small = absurd (omega (arith, le))
+  array_numbered (suc n) vs k le small = (
+    items_of vs,
+    frame_is (items_of vs) small,
+    items_numbered (IsNumberedDocument n) (IsNumberedArray n) n (document_numbered n) (array_numbered n) 0 vs k (omega (arith, le)) (omega (arith, small, framed_len (items_of vs))),
+  )
+
+pub is_numbered : NumberedSpelling
+is_numbered fs k small = (levels_of fs, document_numbered (levels_of fs) fs k (omega arith) small)

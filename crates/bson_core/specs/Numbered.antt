@@ -1,8 +1,9 @@
 -- The spellings of documents whose arrays have the names "0", "1" and so on, at every level.
-use Rattle.std.specs.Prelude.{◌≡◌, ℕ, zero, suc, ◌+◌, ◌<◌, List, [], ◌∷◌, ◌++◌, slice_index}
+use Rattle.std.specs.Prelude.{◌≡◌, ℕ, zero, suc, ◌+◌, ◌<◌, ◌^◌, List, [], ◌∷◌, ◌++◌, length, slice_index}
 use Rattle.std.specs.Fmt.{decimal}
 use Rattle.bson_value.specs.declared.value.Value.{Value, out-Value}
 use Rattle.bson_value.specs.Spelling.{document_text}
+use Rattle.bson_value.specs.WellFormed.{IsWellFormedDocument}
 use Rattle.bson_check.specs.Spells.{IsFrame, type_byte, AreBytesOf, AreFields}
 
 abbrev pub AreBytes : List ℕ → Type 0
@@ -22,6 +23,10 @@ unfoldable mutual
   pub IsNumberedArray : ℕ → List ℕ → List Value → Type 0
   IsNumberedArray zero b vs = ⊥
   IsNumberedArray (suc levels) b vs = (elements : List ℕ) × IsFrame b elements × AreNumberedItems (λ c v. AreBytesOf (IsNumberedDocument levels) (IsNumberedArray levels) c (out-Value v)) 0 elements vs
+
+-- the law that the spelling of a document is one of these, where a length can hold how long it is
+abbrev pub NumberedSpelling : Type 0
+NumberedSpelling = (fs : List (List ℕ × Value)) → IsWellFormedDocument fs → length (document_text fs) < 2 ^ 31 → (levels : ℕ) × IsNumberedDocument levels (document_text fs) fs
 
 -- the law that a document has one spelling of these names at most
 abbrev pub OneNumberedSpelling : Type 0

@@ -1,5 +1,5 @@
 //! The laws of spelling. Each function does nothing, and its caller learns the law.
-ghost use Rattle.bson_core.specs.Numbered.{OneNumberedSpelling};
+ghost use Rattle.bson_core.specs.Numbered.{NumberedSpelling, OneNumberedSpelling};
 ghost use Rattle.bson_core.specs.Laws.{EqualKeys, SpellingSpells};
 
 /// The spelling of a document is in the grammar, and spells it, where a length can hold how long it is.
@@ -11,6 +11,12 @@ pub fn spelling_spells()
 /// `Value::is_well_formed` tells of each value what the law asks of it.
 pub fn equal_keys()
     ensures { EqualKeys }
+{}
+
+/// The spelling of a document has the array names "0", "1" and so on, where a length can hold how long
+/// it is.
+pub fn numbered_spelling()
+    ensures { NumberedSpelling }
 {}
 
 /// Bytes that spell a document with the array names "0", "1" and so on are what `encode` writes of it.

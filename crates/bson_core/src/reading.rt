@@ -16,7 +16,7 @@ use bson_check::parts::{
 use bson_check::passing::after;
 use bson_check::repeats::{first_fault, first_repeat};
 use bson_check::{BsonFault, BsonKind, DecodeFault};
-use bson_value::{Bytes, CText, Doc, Fields, List, Text, Value};
+use bson_value::{Bytes, CText, Doc, Fields, List, Text, Value, type_byte};
 use std::alloc::Global;
 
 fn bad(kind: BsonKind, at: usize) -> DecodeFault
@@ -40,76 +40,76 @@ fn value(
     ensures jumps { IfOk result (λ x. x.1.now ≡ jump tag bytes.now) }
 {
     match tag {
-        1 => {
+        type_byte::DOUBLE => {
             let (run, rest) = run(8, end, bytes)?;
             Ok((Value::Double(eight(run)), rest))
         }
-        2 => {
+        type_byte::STRING => {
             let (text, rest) = text(end, bytes)?;
             Ok((Value::Str(Text::of(alloc, text)?), rest))
         }
-        3 => {
+        type_byte::DOCUMENT => {
             let (doc, rest) = document(alloc, levels, end, bytes)?;
             Ok((Value::Object(doc), rest))
         }
-        4 => {
+        type_byte::ARRAY => {
             let (items, rest) = array(alloc, levels, end, bytes)?;
             Ok((Value::Array(items), rest))
         }
-        5 => {
+        type_byte::BINARY => {
             let (subtype, run, rest) = binary(end, bytes)?;
             let bytes = Bytes::of(alloc, run)?;
             Ok((Value::Binary { subtype, bytes }, rest))
         }
-        6 => Ok((Value::Undefined, bytes)),
-        7 => {
+        type_byte::UNDEFINED => Ok((Value::Undefined, bytes)),
+        type_byte::OBJECT_ID => {
             let (run, rest) = run(12, end, bytes)?;
             Ok((Value::Oid(twelve(run)), rest))
         }
-        8 => Ok(boolean(end, bytes)?),
-        9 => {
+        type_byte::BOOLEAN => Ok(boolean(end, bytes)?),
+        type_byte::DATE => {
             let (run, rest) = run(8, end, bytes)?;
             Ok((Value::Date(long(run)), rest))
         }
-        10 => Ok((Value::Null, bytes)),
-        11 => {
+        type_byte::NULL => Ok((Value::Null, bytes)),
+        type_byte::REGEX => {
             let pair = regex(end, bytes)?;
             let pattern = CText::of_text(alloc, pair.first)?;
             let options = CText::of_text(alloc, pair.second)?;
             Ok((Value::Regex { pattern, options }, pair.after))
         }
-        12 => {
+        type_byte::DB_POINTER => {
             let (ns, id, rest) = pointer(end, bytes)?;
             let ns = Text::of(alloc, ns)?;
             Ok((Value::DbPointer { ns, id: twelve(id) }, rest))
         }
-        13 => {
+        type_byte::CODE => {
             let (text, rest) = text(end, bytes)?;
             Ok((Value::Code(Text::of(alloc, text)?), rest))
         }
-        14 => {
+        type_byte::SYMBOL => {
             let (text, rest) = text(end, bytes)?;
             Ok((Value::Symbol(Text::of(alloc, text)?), rest))
         }
-        15 => {
+        type_byte::SCOPED_CODE => {
             let (code, scope, rest) = scoped(alloc, levels, end, bytes)?;
             Ok((Value::ScopedCode { code, scope }, rest))
         }
-        16 => Ok(int(end, bytes)?),
-        17 => {
+        type_byte::INT32 => Ok(int(end, bytes)?),
+        type_byte::TIMESTAMP => {
             let (run, rest) = run(8, end, bytes)?;
             Ok((Value::Stamp(stamp(run)), rest))
         }
-        18 => {
+        type_byte::INT64 => {
             let (run, rest) = run(8, end, bytes)?;
             Ok((Value::Long(long(run)), rest))
         }
-        19 => {
+        type_byte::DECIMAL128 => {
             let (run, rest) = run(16, end, bytes)?;
             Ok((Value::Decimal(sixteen(run)), rest))
         }
-        255 => Ok((Value::MinKey, bytes)),
-        127 => Ok((Value::MaxKey, bytes)),
+        type_byte::MIN_KEY => Ok((Value::MinKey, bytes)),
+        type_byte::MAX_KEY => Ok((Value::MaxKey, bytes)),
         _ => Err(bad(BsonKind::Tag, end - bytes.len())),
     }
 }

@@ -7,7 +7,7 @@ ghost use Rattle.bson_core.specs.Key.{key_of};
 ghost use Rattle.bson_value.specs.WellFormed.{IsWellFormed, AreWellFormedItems, AreWellFormedFields, IsWellFormedDocument};
 ghost use Rattle.bson_value.specs.Spelling.{spelling, tag_of, spelled, typed_fields, numbered, counted, text_bytes, elements_of, items_of, element, count_bytes, framed, document_text};
 
-use bson_value::{Bytes, CText, Doc, Text, Value};
+use bson_value::{Bytes, CText, Doc, Text, Value, type_byte};
 use itoa::Buffer;
 use std::alloc::{AllocError, Global};
 
@@ -71,27 +71,27 @@ pub fn type_of(value: &Value) -> u8
     ensures { result ≡ tag_of value.now }
 {
     match value {
-        Value::Double(_) => 1,
-        Value::Str(_) => 2,
-        Value::Object(_) => 3,
-        Value::Array(_) => 4,
-        Value::Binary { .. } => 5,
-        Value::Undefined => 6,
-        Value::Oid(_) => 7,
-        Value::Bool(_) => 8,
-        Value::Date(_) => 9,
-        Value::Null => 10,
-        Value::Regex { .. } => 11,
-        Value::DbPointer { .. } => 12,
-        Value::Code(_) => 13,
-        Value::Symbol(_) => 14,
-        Value::ScopedCode { .. } => 15,
-        Value::Int(_) => 16,
-        Value::Stamp(_) => 17,
-        Value::Long(_) => 18,
-        Value::Decimal(_) => 19,
-        Value::MinKey => 255,
-        Value::MaxKey => 127,
+        Value::Double(_) => type_byte::DOUBLE,
+        Value::Str(_) => type_byte::STRING,
+        Value::Object(_) => type_byte::DOCUMENT,
+        Value::Array(_) => type_byte::ARRAY,
+        Value::Binary { .. } => type_byte::BINARY,
+        Value::Undefined => type_byte::UNDEFINED,
+        Value::Oid(_) => type_byte::OBJECT_ID,
+        Value::Bool(_) => type_byte::BOOLEAN,
+        Value::Date(_) => type_byte::DATE,
+        Value::Null => type_byte::NULL,
+        Value::Regex { .. } => type_byte::REGEX,
+        Value::DbPointer { .. } => type_byte::DB_POINTER,
+        Value::Code(_) => type_byte::CODE,
+        Value::Symbol(_) => type_byte::SYMBOL,
+        Value::ScopedCode { .. } => type_byte::SCOPED_CODE,
+        Value::Int(_) => type_byte::INT32,
+        Value::Stamp(_) => type_byte::TIMESTAMP,
+        Value::Long(_) => type_byte::INT64,
+        Value::Decimal(_) => type_byte::DECIMAL128,
+        Value::MinKey => type_byte::MIN_KEY,
+        Value::MaxKey => type_byte::MAX_KEY,
     }
 }
 

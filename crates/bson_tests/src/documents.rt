@@ -1,8 +1,9 @@
 //! Worked documents, and the first fault of bytes that are none.
-ghost use Rattle.std.specs.Prelude.{◌<◌};
-
-use super::*;
-use std::alloc::{AllocError, Global};
+use crate::digits::unhex;
+use bson_core::{
+    BsonFault, BsonKind, DecodeFault, MAX_DOCUMENT_BYTES, MAX_LEVELS, check, decode, encode,
+    same_up_to_order,
+};
 use std::test::Fail;
 
 // Each line has the kind of the first fault, its place, the levels that are allowed, the bytes
@@ -106,26 +107,6 @@ fn kind_of(text: &str) -> BsonKind {
     }
 }
 
-fn digit(c: u8) -> u8
-    ensures { result < 16 }
-{
-    match c {
-        b'0'..=b'9' => c - b'0',
-        b'a'..=b'f' => c - b'a' + 10,
-        _ => 0,
-    }
-}
-
-// The bytes that the hexadecimal digits of a text write.
-fn unhex(alloc: Global, text: &str) -> Result<Vec<u8>, AllocError> {
-    let digits = text.as_bytes();
-    let mut bytes = Vec::new(alloc);
-    for at in 0..digits.len() / 2 {
-        bytes.push(digit(digits[2 * at]) * 16 + digit(digits[2 * at + 1]))?;
-    }
-    Ok(bytes)
-}
-
 #[test]
 fn first_fault_of_each_place(rt: HostRuntime) -> Result<(), Fail> {
     for line in FAULTS.lines() {
@@ -157,9 +138,10 @@ fn documents_of_every_kind(rt: HostRuntime) -> Result<(), Fail> {
         let doc = decode(rt.alloc(), &bytes, bytes.len(), depth)?;
         assert!(rt; doc.fits(bytes.len(), depth), "{what}");
         assert!(rt; !doc.fits(bytes.len(), depth.saturating_sub(1)), "{what}");
+        assert_eq!(rt; doc.spelling_len(), bytes.len(), "{what}");
         let same = doc.copy(rt.alloc())?;
         assert!(rt; same_up_to_order(&doc, &same), "{what}");
-        assert!(rt; same.fits(MAX_DOCUMENT_BYTES, 200), "{what}");
+        assert!(rt; same.fits(MAX_DOCUMENT_BYTES, MAX_LEVELS), "{what}");
         assert_eq!(rt;
             encode(rt.alloc(), &same)?.as_slice(),
             bytes.as_slice(),
