@@ -7,7 +7,7 @@ ghost use Rattle.archive_format.specs.Crc.{crc_on};
 ghost use Rattle.archive_format.specs.Written.{joined, head_text, block_text, end_text, begun, with_documents, HeadFits};
 
 use crate::crc::Crc;
-use bson_core::encode;
+use bson_encode::encode;
 use bson_value::{Bytes, CText, Doc, List, NsName, Value};
 use std::alloc::{AllocError, Global};
 use std::marker::Model;

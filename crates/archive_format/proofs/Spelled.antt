@@ -17,7 +17,7 @@ use Rattle.bson_value.proofs.Sizes.{document_length}
 use Rattle.bson_check.specs.Spells.{IsName}
 use Rattle.bson_check.proofs.Whole.{spelled_is_read}
 use Rattle.bson_value.specs.WellFormed.{IsWellFormedDocument}
-use Rattle.bson_core.proofs.Grammar.{spelling_spells}
+use Rattle.bson_encode.proofs.Grammar.{spelling_spells}
 use Rattle.bson_value.proofs.WellFormed.{formed_str, formed_int, formed_long, formed_bool}
 use Rattle.archive_format.specs.Shapes.{Header, Metadata, ns_head_of, meta_of, header_of, is_namespace, db_name, collection_name, eof_name, crc_name, metadata_name, concurrent_name, version_name, server_name, tool_name, format_version}
 use Rattle.archive_format.specs.Archive.{fields_of, head_in, metadata_in, header_in}

@@ -7,7 +7,7 @@ ghost use Rattle.archive_format.specs.Written.{header_text, meta_text, prelude_t
 ghost use Rattle.archive_prelude.specs.Parts.{header_of_prelude, metadata_of, PreludeFits};
 
 use crate::prelude::{Meta, Prelude};
-use bson_core::encode;
+use bson_encode::encode;
 use bson_value::{Bytes, CText, Doc, Text, Value};
 use std::alloc::{AllocError, Global};
 use tool_io::{Fault, Sink};

@@ -1,9 +1,9 @@
 //! Worked documents, and the first fault of bytes that are none.
 use crate::digits::unhex;
-use bson_core::{
-    BsonFault, BsonKind, DecodeFault, MAX_DOCUMENT_BYTES, MAX_LEVELS, check, decode, encode,
-    same_up_to_order,
-};
+use bson_check::{BsonFault, BsonKind, DecodeFault, MAX_DOCUMENT_BYTES, MAX_LEVELS, check};
+use bson_core::decode;
+use bson_encode::encode;
+use bson_value::same_up_to_order;
 use std::test::Fail;
 
 // Each line has the kind of the first fault, its place, the levels that are allowed, the bytes

@@ -1,7 +1,9 @@
 //! Edits of a document's fields.
 
 use crate::digits::unhex;
-use bson_core::{CText, Doc, Fields, Value, decode, encode};
+use bson_core::decode;
+use bson_encode::encode;
+use bson_value::{CText, Doc, Fields, Value};
 use std::alloc::{AllocError, Global};
 use std::test::Fail;
 

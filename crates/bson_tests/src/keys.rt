@@ -1,7 +1,8 @@
 //! Keys of `_id`s, and documents that are appended.
 
 use crate::digits::unhex;
-use bson_core::{cmp_key, decode, encode_into, put_key};
+use bson_core::decode;
+use bson_encode::{cmp_key, encode_into, put_key};
 use std::cmp::Ordering;
 use std::test::Fail;
 

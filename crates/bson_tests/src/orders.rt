@@ -1,8 +1,9 @@
 //! The orders of timestamps, namespaces, texts and fields.
 
 use crate::digits::unhex;
-use bson_core::{NsName, Ts, decode, encode};
-use bson_value::index_of;
+use bson_core::decode;
+use bson_encode::encode;
+use bson_value::{NsName, Ts, index_of};
 use containers::{Bytes, CText, List, Text};
 use std::cmp::Ordering;
 use std::collections::BTreeMap;

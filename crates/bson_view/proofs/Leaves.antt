@@ -9,7 +9,7 @@ use Rattle.bson_value.specs.Spelling.{Typed, count_bytes, text_bytes, spelling, 
 use Rattle.bson_value.specs.declared.value.Value.{Value, out-Value, map-Value}
 use Rattle.bson_value.specs.declared.value.Value.TheOpen.{Value-F}
 use Rattle.bson_check.specs.Spells.{IsCount, IsSigned, IsString, AreBytesOf, IsDocument, IsArray}
-use Rattle.bson_core.proofs.Grammar.{spelling_out}
+use Rattle.bson_encode.proofs.Grammar.{spelling_out}
 use Rattle.bson_view.specs.Meaning.{AreBytes, IsLeaf, LeafSpelledOnce}
 
 back_bytes : (a b : List ℕ) → AreBytes (a ++ b) → AreBytes b

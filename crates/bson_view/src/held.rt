@@ -13,7 +13,7 @@ ghost use Rattle.bson_view.specs.Paths.{value_under, value_along, value_at};
 use crate::elem::Elem;
 use crate::view::View;
 use crate::walk::{HeldFields, HeldItems};
-use bson_core::type_of;
+use bson_encode::type_of;
 use bson_value::{CText, Doc, List, Value, index_of};
 use std::alloc::{AllocError, Global};
 

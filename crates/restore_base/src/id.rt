@@ -7,7 +7,8 @@ ghost use Rattle.restore_base.specs.Base.{has_id, id_key, document_taken};
 ghost use Rattle.restore_base.specs.Kept.{holds_values};
 
 use bson_check::{DecodeFault, MAX_DOCUMENT_BYTES, MAX_LEVELS};
-use bson_core::{decode, encode};
+use bson_core::decode;
+use bson_encode::encode;
 use bson_value::{CText, Doc, Value};
 use bson_view::{Elem, View};
 use std::alloc::{AllocError, Global};

@@ -6,7 +6,7 @@ ghost use Rattle.tool_io.specs.Causes.{Rose, AppendsFront};
 ghost use Rattle.state_listing.specs.Listing.{name_text, head_text, in_order, shown, document_line};
 
 use crate::ordering::ordered_document;
-use bson_core::encode;
+use bson_encode::encode;
 use bson_value::{Doc, Value};
 use extjson::tree_of;
 use json_text::{JText, Tree, print};

@@ -1,5 +1,5 @@
 use Rattle.std.proofs.Common.{◌∙◌}
-use Rattle.bson_core.proofs.Grammar.{tag_is}
+use Rattle.bson_encode.proofs.Grammar.{tag_is}
 use Rattle.bson_view.proofs.Leaves.{leaf_spelled_once}
 use Rattle.bson_view.proofs.Meanings.{checked_value}
 use Rattle.bson_view.proofs.elem.Elem.spells.Goals as goal
