@@ -6,3 +6,7 @@ pub mod Wholes
 pub mod ReadBack
 pub mod RoundTrips
 pub mod Wrapping
+pub mod Decimals
+pub mod Once
+pub mod Unwrapped
+pub mod Shallow

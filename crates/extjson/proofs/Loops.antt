@@ -5,7 +5,7 @@ use Rattle.std.proofs.Math.Seq.{drop-cons}
 use Rattle.std.proofs.lemmas.List.{drop_all, append-nil, take_more}
 use Rattle.std.specs.List.{list_any}
 use Rattle.containers.specs.Entries.{names_of}
-use Rattle.json_text.specs.declared.tree.Tree.{Tree}
+use Rattle.json_tree.specs.declared.tree.Tree.{Tree}
 use Rattle.bson_value.specs.declared.value.Value.{Value}
 use Rattle.extjson.specs.declared.fault.ExtFault.{ExtFault}
 use Rattle.extjson.specs.declared.fault.ExtFault.TheVariants as faults

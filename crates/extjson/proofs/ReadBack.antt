@@ -17,8 +17,8 @@ use Rattle.hex.specs.Hex.{IsBytes, encode_lower, encode_with, lower_digits}
 use Rattle.hex.proofs.HexLemmas.{length-encode_with, decode_pairs-encode_with, IsDigits-lower_digits}
 use Rattle.bson_value.specs.declared.value.Value.{Value}
 use Rattle.bson_value.specs.declared.value.Value.TheVariants as values
-use Rattle.json_text.specs.declared.tree.Tree.{Tree}
-use Rattle.json_text.specs.declared.tree.Tree.TheVariants as trees
+use Rattle.json_tree.specs.declared.tree.Tree.{Tree}
+use Rattle.json_tree.specs.declared.tree.Tree.TheVariants as trees
 use Rattle.extjson.specs.declared.wrapper.Wrapper.{Wrapper}
 use Rattle.extjson.specs.declared.wrapper.Wrapper.TheVariants as wrappers
 use Rattle.extjson.specs.Numbers.{is_natural, is_whole, whole_number, in_range, as_count}
@@ -137,7 +137,7 @@ code_known t e = rw code_name refl
 
 -- ---- numbers
 
-natural_decimal : (n : ℕ) → n < 2 ^ 64 → is_natural (decimal n) ≡ true
+pub natural_decimal : (n : ℕ) → n < 2 ^ 64 → is_natural (decimal n) ≡ true
 unfolding is_natural
 natural_decimal zero lt = rw (decimal_digit 0 (omega arith)) refl
 natural_decimal (suc n) lt =
@@ -222,12 +222,15 @@ date_back z fits =
     wraps (codes "$date") wrappers.Date (trees.Object inner) date_name
     ∙ rw (members_is inner, only_is (codes "$numberLong") (trees.Str (signed_decimal z)), long_is z fits) refl
 
-pub stamp_back : (secs inc : ℕ) → secs < 2 ^ 32 → inc < 2 ^ 32 → value_of (stamp_tree secs inc) ≡ Ok (values.Stamp (record { secs = secs; inc = inc }))
-unfolding stamp_tree stamp_value
-stamp_back secs inc a b =
+-- the object inside a timestamp
+abbrev pub stamp_inner : ℕ → ℕ → Tree
+stamp_inner secs inc = trees.Object ((codes "t", trees.Number (decimal secs)) ∷ (codes "i", trees.Number (decimal inc)) ∷ [])
+
+pub stamp_told : (secs inc : ℕ) → secs < 2 ^ 32 → inc < 2 ^ 32 → stamp_value (stamp_inner secs inc) ≡ Ok (values.Stamp (record { secs = secs; inc = inc }))
+unfolding stamp_value
+stamp_told secs inc a b =
     let inner : List (List ℕ × Tree) = (codes "t", trees.Number (decimal secs)) ∷ (codes "i", trees.Number (decimal inc)) ∷ [] in
-    wraps (codes "$timestamp") wrappers.Stamp (trees.Object inner) stamp_name
-    ∙ rw (
+    rw (
       members_is inner,
       both_is (codes "t") (codes "i") (trees.Number (decimal secs)) (trees.Number (decimal inc)),
       number_is (decimal secs),
@@ -237,6 +240,14 @@ stamp_back secs inc a b =
       counted_is secs a,
       counted_is inc b,
     ) refl
+
+pub stamp_back : (secs inc : ℕ) → secs < 2 ^ 32 → inc < 2 ^ 32 → value_of (stamp_tree secs inc) ≡ Ok (values.Stamp (record { secs = secs; inc = inc }))
+unfolding stamp_tree
+stamp_back secs inc a b = wraps (codes "$timestamp") wrappers.Stamp (stamp_inner secs inc) stamp_name ∙ stamp_told secs inc a b
+
+pub key_told : (key : Value) → key_value key (trees.Number (codes "1")) ≡ Ok key
+unfolding key_value
+key_told key = rw (number_is (codes "1")) refl
 
 -- ---- bytes
 

@@ -1,7 +1,7 @@
 -- A function of trees by one level.
 use Rattle.std.proofs.Common.{◌≡◌, ℕ, List, [], ◌∷◌, refl, ap, ◌∙◌, subst}
 use Rattle.std.specs.Prelude.{map}
-use Rattle.json_text.specs.declared.tree.Tree.{Tree, Tree-F, roll-Tree, map-Tree, fold-roll-Tree, ind-Tree}
+use Rattle.json_tree.specs.declared.tree.Tree.{Tree, Tree-F, roll-Tree, map-Tree, fold-roll-Tree, ind-Tree}
 use Rattle.extjson.specs.Recursion.{beside, by_parts}
 
 module _ {A : Type 0} (step : Tree-F (Tree × A) → A) where

@@ -22,7 +22,7 @@ unfolding is_natural
 natural_all [] le ne = absurd (omega arith)
 natural_all (c ∷ cs) le ne = rw (ne_eqb c 48 ne) refl
 
-natural_digits : (ds : List ℕ) → is_natural ds ≡ true → list_all is_ascii_digit ds ≡ true
+pub natural_digits : (ds : List ℕ) → is_natural ds ≡ true → list_all is_ascii_digit ds ≡ true
 unfolding is_natural
 natural_digits [] h = refl
 natural_digits (c ∷ cs) h =

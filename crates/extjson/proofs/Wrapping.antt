@@ -11,8 +11,8 @@ use Rattle.extjson.specs.Numbers.{is_whole, whole_number, in_range}
 use Rattle.extjson.specs.Trees.{int_tree, long_tree, tree_step, tree_of}
 use Rattle.extjson.specs.Values.{plain_value, whole_value}
 use Rattle.extjson.proofs.Wholes.{range_number, kept}
-use Rattle.json_text.specs.declared.tree.Tree.{Tree, Tree-F, roll-Tree, map-Tree}
-use Rattle.json_text.specs.declared.tree.Tree.TheVariants as trees
+use Rattle.json_tree.specs.declared.tree.Tree.{Tree, Tree-F, roll-Tree, map-Tree}
+use Rattle.json_tree.specs.declared.tree.Tree.TheVariants as trees
 use Rattle.extjson.specs.Plain.{is_told, has_plain_parts, number_tree, object_tree, wrapped_step, wrapped_numbers, wrapped_items, wrapped_fields}
 use Rattle.extjson.specs.Wrappers.{wrapper_of}
 use Rattle.extjson.proofs.Recursions.{by_parts-roll}

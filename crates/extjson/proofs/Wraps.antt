@@ -1,8 +1,8 @@
 -- Objects of one and of two members, whose values are known.
 use Rattle.std.proofs.Common.{◌≡◌, ℕ, List, [], ◌∷◌, Result, refl, subst, ap, ◌∙◌}
 use Rattle.std.specs.Prelude.{IfOk}
-use Rattle.json_text.specs.declared.tree.Tree.{Tree}
-use Rattle.json_text.specs.declared.tree.Tree.TheVariants as trees
+use Rattle.json_tree.specs.declared.tree.Tree.{Tree}
+use Rattle.json_tree.specs.declared.tree.Tree.TheVariants as trees
 use Rattle.containers.specs.Entries.{names_of}
 use Rattle.bson_value.specs.declared.value.Value.{Value, Value-F, fold-roll-Value}
 use Rattle.bson_value.specs.declared.value.Value.TheVariants.{ScopedCode, rolls-ScopedCode}

@@ -5,3 +5,4 @@ pub mod Wrappers
 pub mod Values
 pub mod RoundTrip
 pub mod Plain
+pub mod Levels

@@ -1,9 +1,10 @@
 -- Plain whole numbers as wrappers.
 use Rattle.std.specs.Prelude.{◌≡◌, ℕ, Bool, false, List, [], ◌∷◌, map, Option, Some, None, Ok, Err, is_ok, if◌then◌else◌}
+use Rattle.bson_value.specs.WellFormed.{IsWellFormed}
 use Rattle.bson_value.specs.declared.value.Value.{Value}
 use Rattle.bson_value.specs.declared.value.Value.TheVariants.{MinKey, MaxKey}
-use Rattle.json_text.specs.declared.tree.Tree.{Tree, Tree-F}
-use Rattle.json_text.specs.declared.tree.Tree.TheVariants as trees
+use Rattle.json_tree.specs.declared.tree.Tree.{Tree, Tree-F}
+use Rattle.json_tree.specs.declared.tree.Tree.TheVariants as trees
 use Rattle.extjson.specs.declared.wrapper.Wrapper.{Wrapper}
 use Rattle.extjson.specs.declared.wrapper.Wrapper.TheVariants as wrappers
 use Rattle.extjson.specs.Recursion.{by_parts}
@@ -57,3 +58,11 @@ wrapped_items ts = map wrapped_numbers ts
 
 abbrev pub wrapped_fields : List (List ℕ × Tree) → List (List ℕ × Tree)
 wrapped_fields es = map (λ e. (e.0, wrapped_numbers e.1)) es
+
+-- the law that they become wrappers once
+abbrev pub WrappedOnce : Type 0
+WrappedOnce = (t : Tree) → wrapped_numbers (wrapped_numbers t) ≡ wrapped_numbers t
+
+-- the law that the tree of a value has none
+abbrev pub TreesAreWrapped : Type 0
+TreesAreWrapped = (v : Value) → IsWellFormed v → wrapped_numbers (tree_of v) ≡ tree_of v

@@ -7,8 +7,8 @@ use Rattle.base64.specs.GeneralPurpose.{encode_of}
 use Rattle.hex.specs.Hex.{encode_lower}
 use Rattle.bson_value.specs.declared.value.Value.{Value, fold-Value}
 use Rattle.bson_value.specs.declared.value.Value.TheOpen.{Value-F}
-use Rattle.json_text.specs.declared.tree.Tree.{Tree}
-use Rattle.json_text.specs.declared.tree.Tree.TheVariants as trees
+use Rattle.json_tree.specs.declared.tree.Tree.{Tree}
+use Rattle.json_tree.specs.declared.tree.Tree.TheVariants as trees
 
 -- an object with one member
 abbrev pub wrapped : List ℕ → Tree → Tree

@@ -7,16 +7,12 @@ mod numbers;
 mod parts;
 mod plain;
 mod reading;
-#[cfg(test)]
-mod tests;
 mod wrapped;
 mod wrapper;
 mod writing;
 
-pub use bson_value::Value;
 pub use fault::ExtFault;
-pub use json_text::Tree;
-pub use laws::trees_read_back;
+pub use laws::{trees_are_shallow, trees_are_wrapped, trees_read_back, wrapped_once};
 pub use plain::wrap_numbers;
 pub use reading::value_of;
 pub use writing::tree_of;

@@ -8,8 +8,9 @@ use crate::numbers::{is_whole, to_count, to_int, to_long};
 use base64::DecodeAllocError;
 use base64::engine::general_purpose::STANDARD;
 use bson_value::{Bytes, CText};
+use containers::Text as JText;
 use hex::FromHex;
-use json_text::{JText, Tree};
+use json_tree::Tree;
 use std::alloc::Global;
 
 #[tactic(auto, unfolding(crate::specs::Values::string_of))]

@@ -2,6 +2,7 @@
 ghost use Rattle.std.specs.Prelude.{◌≡◌, IfOk, is_ok, map};
 ghost use Rattle.containers.specs.Entries.{AreDistinct, names_of};
 ghost use Rattle.bson_value.specs.declared.value.Value.{Value as Datum};
+ghost use Rattle.json_tree.specs.WellFormed.{IsWellFormed};
 ghost use Rattle.extjson.specs.Values.{Read, Gives};
 ghost use Rattle.extjson.specs.Plain.{is_told, has_plain_parts, number_tree, wrapped_numbers, wrapped_items, wrapped_fields};
 
@@ -11,23 +12,25 @@ use crate::wrapped::{key, stamp};
 use crate::wrapper::Wrapper;
 use crate::writing::{int, long};
 use bson_value::Value;
-use json_text::{Fields, JList, JText, Tree};
+use containers::{List as JList, Text as JText};
+use json_tree::{Fields, Number, Tree};
 use std::alloc::{AllocError, Global};
 
 // A number that stands by itself.
 #[tactic(auto, unfolding(crate::specs::Plain::number_tree, crate::specs::Values::plain_value, crate::specs::Values::whole_value))]
-fn number(alloc: Global, text: &str) -> Result<Tree, AllocError>
-    ensures { IfOk result (λ t. t ≡ number_tree text.now) }
+fn number(alloc: Global, number: &Number) -> Result<Tree, AllocError>
+    ensures { IfOk result (λ t. t ≡ number_tree number.now) }
 {
+    let text = number.as_str();
     if !is_whole(text.as_bytes()) {
-        return Ok(Tree::Number(JText::of(alloc, text)?));
+        return Ok(Tree::Number(number.copy(alloc)?));
     }
     if let Some(n) = to_int(text) {
         return int(alloc, n);
     }
     match to_long(text) {
         Some(n) => long(alloc, n),
-        None => Ok(Tree::Number(JText::of(alloc, text)?)),
+        None => Ok(Tree::Number(number.copy(alloc)?)),
     }
 }
 
@@ -66,16 +69,14 @@ fn has_plain_parts(entries: &[(JText, Tree)]) -> Result<bool, AllocError>
     }
 }
 
-/// The tree with its plain whole numbers that fit 64 bits as wrappers. An object that reads as a
-/// timestamp, or as the least or the greatest key, keeps its numbers.
 #[cycle(wrap_numbers)]
-pub fn wrap_numbers(alloc: Global, tree: &Tree) -> Result<Tree, AllocError>
+fn wrapped(alloc: Global, tree: &Tree) -> Result<Tree, AllocError>
     ensures { IfOk result (λ t. t ≡ wrapped_numbers tree.now) }
 {
     match tree {
         Tree::Null => Ok(Tree::Null),
         Tree::Bool(b) => Ok(Tree::Bool(*b)),
-        Tree::Number(text) => number(alloc, text.as_str()),
+        Tree::Number(text) => number(alloc, text),
         Tree::Str(text) => Ok(Tree::Str(text.copy(alloc)?)),
         Tree::Items(trees) => Ok(Tree::Items(items(alloc, trees.as_slice())?)),
         Tree::Object(members) => {
@@ -93,7 +94,7 @@ fn items(alloc: Global, trees: &[Tree]) -> Result<JList<Tree>, AllocError>
 {
     let mut made = JList::new(alloc);
     for tree in trees {
-        made.push(wrap_numbers(alloc, tree)?)?;
+        made.push(wrapped(alloc, tree)?)?;
     }
     Ok(made)
 }
@@ -115,6 +116,17 @@ fn member(alloc: Global, entry: &(JText, Tree)) -> Result<(JText, Tree), AllocEr
     ensures { IfOk result (λ e. e ≡ (entry.now.0, wrapped_numbers entry.now.1)) }
 {
     let name = entry.0.copy(alloc)?;
-    let tree = wrap_numbers(alloc, &entry.1)?;
+    let tree = wrapped(alloc, &entry.1)?;
     Ok((name, tree))
+}
+
+/// The tree with its plain whole numbers that fit 64 bits as wrappers. An object that reads as a
+/// timestamp, or as the least or the greatest key, keeps its numbers.
+pub fn wrap_numbers(alloc: Global, tree: &Tree) -> Result<Tree, AllocError>
+    ensures tree { IfOk result (λ t. t ≡ wrapped_numbers tree.now) }
+    ensures well_formed { IfOk result (λ t. IsWellFormed t) }
+{
+    let tree = wrapped(alloc, tree)?;
+    tree.is_well_formed();
+    Ok(tree)
 }

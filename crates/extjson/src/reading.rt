@@ -1,6 +1,7 @@
 //! The value of a tree.
-ghost use Rattle.std.specs.Prelude.{◌≡◌, map, true};
+ghost use Rattle.std.specs.Prelude.{◌≡◌, IfOk, map, true};
 ghost use Rattle.containers.specs.Entries.{AreDistinct, names_of};
+ghost use Rattle.bson_value.specs.WellFormed.{IsWellFormed};
 ghost use Rattle.extjson.specs.Values.{Gives, without_zero, scope_of, scoped_value, wrapper_value, items_value, fields_value, has_wrapper, object_value, plain_value, value_of, parts_of};
 
 use crate::fault::ExtFault;
@@ -9,7 +10,8 @@ use crate::parts::{both, string, without_zero};
 use crate::wrapped::wrapped;
 use crate::wrapper::Wrapper;
 use bson_value::{CText, Doc, Fields, List, Text, Value};
-use json_text::{JText, Tree};
+use containers::Text as JText;
+use json_tree::Tree;
 use std::alloc::Global;
 
 // A number that stands by itself.
@@ -38,10 +40,8 @@ fn has_wrapper(entries: &[(JText, Tree)]) -> bool
         .any(|entry| Wrapper::named(entry.0.as_str()).is_some())
 }
 
-/// The value that a JSON value stands for, by the table of docs/extended-json.md. The fault is the first
-/// in the order of the text, where an object is looked at for an outermost `$` name before its members.
 #[cycle(value_of)]
-pub fn value_of(alloc: Global, tree: &Tree) -> Result<Value, ExtFault>
+fn value(alloc: Global, tree: &Tree) -> Result<Value, ExtFault>
     ensures { Gives (λ v. v) result (value_of tree.now) }
 {
     match tree {
@@ -60,7 +60,7 @@ fn items(alloc: Global, trees: &[Tree]) -> Result<List<Value>, ExtFault>
 {
     let mut values = List::new(alloc);
     for tree in trees {
-        values.push(value_of(alloc, tree)?)?;
+        values.push(value(alloc, tree)?)?;
     }
     Ok(values)
 }
@@ -94,7 +94,7 @@ fn scoped(alloc: Global, entries: &[(JText, Tree)]) -> Result<Value, ExtFault>
 fn document(alloc: Global, tree: &Tree) -> Result<Doc, ExtFault>
     ensures { Gives (λ d. d) result (scope_of (value_of tree.now)) }
 {
-    match value_of(alloc, tree) {
+    match value(alloc, tree) {
         Ok(Value::Object(doc)) => Ok(doc),
         Err(ExtFault::NoMemory) => Err(ExtFault::NoMemory),
         _ => Err(ExtFault::BadWrapper),
@@ -109,8 +109,19 @@ fn fields(alloc: Global, entries: &[(JText, Tree)]) -> Result<Doc, ExtFault>
     let mut fields = Vec::new(alloc);
     for entry in entries {
         let name = without_zero(alloc, entry.0.as_str())?;
-        let value = value_of(alloc, &entry.1)?;
+        let value = value(alloc, &entry.1)?;
         fields.push((name, value))?;
     }
     Ok(Fields::of_distinct(fields))
+}
+
+/// The value that a JSON value stands for, by the table of docs/extended-json.md. The fault is the first
+/// in the order of the text, where an object is looked at for an outermost `$` name before its members.
+pub fn value_of(alloc: Global, tree: &Tree) -> Result<Value, ExtFault>
+    ensures gives { Gives (λ v. v) result (value_of tree.now) }
+    ensures well_formed { IfOk result (λ v. IsWellFormed v) }
+{
+    let value = value(alloc, tree)?;
+    value.is_well_formed();
+    Ok(value)
 }

@@ -11,7 +11,7 @@ use crate::parts::{
 use crate::wrapper::Wrapper;
 use crate::writing::{MINUS_ONE, ONE};
 use bson_value::{Text, Ts, Value};
-use json_text::Tree;
+use json_tree::Tree;
 use std::alloc::Global;
 
 #[tactic(auto, unfolding(crate::specs::Values::int_value))]

@@ -1,12 +1,15 @@
 //! The tree of a value.
-ghost use Rattle.std.specs.Prelude.{◌≡◌, ℕ, List, IfOk, reverse, string_bytes};
+ghost use Rattle.std.specs.Prelude.{◌≡◌, ℕ, List, IfOk, codes, reverse, string_bytes};
 ghost use Rattle.std.specs.Fmt.{decimal};
 ghost use Rattle.containers.specs.Entries.{AreDistinct, names_of};
+ghost use Rattle.bson_value.specs.WellFormed.{IsWellFormed as IsWellFormedValue};
+ghost use Rattle.json_tree.specs.WellFormed.{IsWellFormed};
 ghost use Rattle.extjson.specs.Trees.{wrapped, paired, hex_text, double_tree, decimal_tree, binary_tree, undefined_tree, oid_tree, int_tree, long_tree, date_tree, regex_tree, pointer_tree, code_tree, scoped_tree, symbol_tree, stamp_tree, min_tree, max_tree, tree_of, items_of, fields_of};
 
 use base64::engine::general_purpose::STANDARD;
 use bson_value::{CText, Value};
-use json_text::{Fields, JList, JText, Tree};
+use containers::{List as JList, Text as JText};
+use json_tree::{Fields, Number, Tree};
 use std::alloc::{AllocError, Global};
 
 // The doubles 1 and -1, the low byte first.
@@ -29,7 +32,8 @@ fn string(text: String) -> Tree
 fn number(alloc: Global, n: u32) -> Result<Tree, AllocError>
     ensures { IfOk result (λ t. t ≡ Tree.Number (decimal n)) }
 {
-    Ok(Tree::Number(JText::from_string(n.to_string(alloc)?)))
+    let digits = JText::from_string(n.to_string(alloc)?);
+    Ok(Tree::Number(Number::of(digits)))
 }
 
 // An object with one member.
@@ -177,21 +181,27 @@ fn stamp(alloc: Global, secs: u32, inc: u32) -> Result<Tree, AllocError>
     wrap(alloc, "$timestamp", inner)
 }
 
+// The number of a least or a greatest key.
+fn key_number(alloc: Global) -> Result<Tree, AllocError>
+    ensures { IfOk result (λ t. t ≡ Tree.Number (codes "1")) }
+{
+    Ok(Tree::Number(Number::of(JText::of(alloc, "1")?)))
+}
+
 fn least(alloc: Global) -> Result<Tree, AllocError>
     ensures { IfOk result (λ t. t ≡ min_tree) }
 {
-    wrap(alloc, "$minKey", Tree::Number(JText::of(alloc, "1")?))
+    wrap(alloc, "$minKey", key_number(alloc)?)
 }
 
 fn greatest(alloc: Global) -> Result<Tree, AllocError>
     ensures { IfOk result (λ t. t ≡ max_tree) }
 {
-    wrap(alloc, "$maxKey", Tree::Number(JText::of(alloc, "1")?))
+    wrap(alloc, "$maxKey", key_number(alloc)?)
 }
 
-/// The tree of a value, by the table of docs/extended-json.md.
 #[cycle(tree_of)]
-pub fn tree_of(alloc: Global, value: &Value) -> Result<Tree, AllocError>
+fn tree(alloc: Global, value: &Value) -> Result<Tree, AllocError>
     ensures { IfOk result (λ t. t ≡ tree_of value.now) }
 {
     match value {
@@ -228,7 +238,7 @@ fn items(alloc: Global, list: &[Value]) -> Result<JList<Tree>, AllocError>
 {
     let mut trees = JList::new(alloc);
     for item in list {
-        trees.push(tree_of(alloc, item)?)?;
+        trees.push(tree(alloc, item)?)?;
     }
     Ok(trees)
 }
@@ -250,6 +260,18 @@ fn entry(alloc: Global, field: &(CText, Value)) -> Result<(JText, Tree), AllocEr
     ensures { IfOk result (λ e. e ≡ (field.now.0, tree_of field.now.1)) }
 {
     let name = JText::of(alloc, field.0.as_str())?;
-    let tree = tree_of(alloc, &field.1)?;
+    let tree = tree(alloc, &field.1)?;
     Ok((name, tree))
+}
+
+/// The tree of a value, by the table of docs/extended-json.md.
+pub fn tree_of(alloc: Global, value: &Value) -> Result<Tree, AllocError>
+    ensures tree { IfOk result (λ t. t ≡ tree_of value.now) }
+    ensures well_formed { IfOk result (λ t. IsWellFormed t) }
+    ensures from_well_formed { IsWellFormedValue value.now }
+{
+    value.is_well_formed();
+    let tree = tree(alloc, value)?;
+    tree.is_well_formed();
+    Ok(tree)
 }

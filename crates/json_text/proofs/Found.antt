@@ -3,8 +3,9 @@ use Rattle.std.proofs.Common.{◌≡◌, ◌⊎◌, ℕ, ◌-◌, Bool as Truth,
 use Rattle.std.specs.List.{list_all}
 use Rattle.std.specs.Str.{is_utf8}
 use Rattle.std.proofs.lemmas.Bool.{cases_Bool, eqb-true, eq-eqb}
-use Rattle.json_text.specs.Reading.{◌>>=◌, Taken, is_space, after_space, is_digit, after_digits, digits_at, whole_at, after_minus, after_sign, fraction_at, exponent_at, after_number, as_text, number_at}
-use Rattle.json_text.specs.Grammar.{IsSpace, AreDigits, IsWhole, IsFraction, IsSign, IsExponent, IsMinus, IsNumber}
+use Rattle.json_tree.specs.Numbers.{AreDigits, IsWhole, IsFraction, IsSign, IsExponent, IsMinus, IsNumber, is_digit}
+use Rattle.json_text.specs.Reading.{◌>>=◌, Taken, is_space, after_space, after_digits, digits_at, whole_at, after_minus, after_sign, fraction_at, exponent_at, after_number, as_text, number_at}
+use Rattle.json_text.specs.Grammar.{IsSpace}
 use Rattle.json_text.proofs.Numerals.{taken}
 
 -- a step and what followed it
@@ -185,3 +186,7 @@ number_found start end bs t rest h =
     let k = text_found start (take (length bs - length one.0) bs) one.0 t rest one.2 in
     let is : r.0 ≡ t = sym (cut_is bs r.0 one.0 r.2) ∙ k.0 in
     (subst IsNumber is r.1, r.2 ∙ ap (λ (l : List ℕ). l ++ one.0) is ∙ ap (λ (l : List ℕ). t ++ l) k.1)
+
+-- the bytes of a number
+pub number_taken : (start end : ℕ) (bs rest : List ℕ) → after_number start end bs ≡ Ok rest → IsNumber (take (length bs - length rest) bs)
+number_taken start end bs rest h = let r = past_found start end bs rest h in subst IsNumber (sym (cut_is bs r.0 rest r.2)) r.1

@@ -4,8 +4,8 @@ use Rattle.std.proofs.lemmas.Bool.{cases_Bool, eqb-true}
 use Rattle.std.proofs.lemmas.List.{append-nil}
 use Rattle.containers.specs.Entries.{AreDistinct, names_of, place_of}
 use Rattle.containers.proofs.Entries.{has_not, distinct_push}
-use Rattle.json_text.specs.declared.tree.Tree.{Tree, Tree-F, out-Tree}
-use Rattle.json_text.specs.declared.tree.Tree.TheVariants as trees
+use Rattle.json_tree.specs.declared.tree.Tree.{Tree, Tree-F, out-Tree}
+use Rattle.json_tree.specs.declared.tree.Tree.TheVariants as trees
 use Rattle.json_text.specs.Reading.{◌>>=◌, Taken, place, after_space, steps_at, word_at, number_at, string_at, Reader, more_at, item_at, unless_there, name_at, colon_at, member_at, closing, or_steps, list_at, value_with, array_at, object_at, value_at, ended, tree_of_text}
 use Rattle.json_text.specs.Grammar.{IsSpace, IsString, AreMore, AreListed, IsMember, IsOne, IsArray, IsObject, Json, ReadIsJson}
 use Rattle.json_text.proofs.Found.{bind_ok, taken_is, space_found, number_found}

@@ -1,4 +1,3 @@
-pub mod Depth
 pub mod Loop
 pub mod Skips
 pub mod Texts
@@ -9,4 +8,5 @@ pub mod Spelled
 pub mod Found
 pub mod FoundStrings
 pub mod FoundValues
+pub mod FoundWell
 pub mod Reprinted

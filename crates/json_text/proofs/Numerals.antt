@@ -6,8 +6,9 @@ use Rattle.std.proofs.lemmas.Bool.{and_parts, eq-eqb, ne_eqb, ltb-true}
 use Rattle.std.proofs.lemmas.List.{length-append, take-append-le, take_all}
 use Rattle.std.proofs.lemmas.Str.{is_utf8-from_IsUtf8, IsUtf8-from_ascii, IsAscii-append}
 use Rattle.std.proofs.lemmas.Str.Ascii.{IsAscii-cons, IsAscii-nil}
-use Rattle.json_text.specs.Reading.{is_space, after_space, is_digit, after_digits, digits_at, whole_at, after_minus, after_sign, fraction_at, exponent_at, after_number, number_at}
-use Rattle.json_text.specs.Grammar.{IsSpace, AreDigits, IsWhole, IsFraction, IsSign, IsExponent, IsMinus, IsNumber}
+use Rattle.json_tree.specs.Numbers.{AreDigits, IsWhole, IsFraction, IsSign, IsExponent, IsMinus, IsNumber, is_digit}
+use Rattle.json_text.specs.Reading.{is_space, after_space, after_digits, digits_at, whole_at, after_minus, after_sign, fraction_at, exponent_at, after_number, number_at}
+use Rattle.json_text.specs.Grammar.{IsSpace}
 
 -- ---- white space
 

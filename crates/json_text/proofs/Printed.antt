@@ -1,13 +1,14 @@
 -- The text of a character in a string, and of an object.
 use Rattle.std.proofs.Common.{◌≡◌, ℕ, ◌+◌, ◌/◌, ◌%◌, ◌≤◌, Bool, true, false, cond, List, [], ◌∷◌, ◌++◌, ltb, eqb, refl, sym, ap, subst, ◌∙◌, append_assoc, arith}
+use Rattle.std.specs.Prelude.{Result, Ok, Err, OnOk}
 use Rattle.std.specs.Char.{encode_utf8}
 use Rattle.std.specs.List.{flat_map}
 use Rattle.std.proofs.lemmas.Bool.{ne_eqb, le-ltb, ltb-false}
 use Rattle.std.proofs.lemmas.List.{append-nil}
 use Rattle.std.proofs.lemmas.Grind.{flat_map-append}
 use Rattle.std.proofs.lemmas.Simd.{map-map}
-use Rattle.json_text.specs.declared.tree.Tree.{Tree, Tree-F, fold-roll-Tree}
-use Rattle.json_text.specs.declared.tree.Tree.TheVariants.{Object, rolls-Object}
+use Rattle.json_tree.specs.declared.tree.Tree.{Tree, Tree-F, fold-roll-Tree}
+use Rattle.json_tree.specs.declared.tree.Tree.TheVariants.{Object, rolls-Object}
 use Rattle.json_text.specs.Print.{escaped, escaped_or, with_commas, member_text, print_step, text_of, entries_text}
 
 -- no byte is ASCII
@@ -60,3 +61,12 @@ pub object_text : (es : List (List ℕ × Tree)) → text_of (Object es) ≡ 123
 object_text es =
     subst (λ (t : Tree). text_of t ≡ 123 ∷ (entries_text es ++ 125 ∷ [])) (rolls-Object es)
     (fold-roll-Tree (List ℕ) print_step (Tree-F.Object es) ∙ ap (λ (ms : List (List ℕ)). 123 ∷ (with_commas ms ++ 125 ∷ [])) (map-map member_text (λ (e : List ℕ × Tree). (e.0, text_of e.1)) es))
+
+-- what is so where a call succeeded
+pub ok_if : {X E P : Type 0} (r : Result X E) → P → OnOk r P
+ok_if (Ok x) p = p
+ok_if (Err e) p = tt
+
+pub ok_map : {X E P Q : Type 0} (r : Result X E) → (P → Q) → OnOk r P → OnOk r Q
+ok_map (Ok x) f p = f p
+ok_map (Err e) f p = tt

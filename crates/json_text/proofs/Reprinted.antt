@@ -1,15 +1,20 @@
 -- What is printed is in the grammar, and is read again.
-use Rattle.std.proofs.Common.{◌≡◌, ◌≢◌, ℕ, zero, suc, ◌+◌, ◌-◌, ◌/◌, ◌%◌, ◌<◌, ◌≤◌, max, true, false, eqb, ltb, List, [], ◌∷◌, ◌++◌, map, Some, refl, sym, ap, ◌∙◌, subst, inl, inr, arith}
+use Rattle.std.proofs.Common.{◌≡◌, ◌≢◌, ℕ, zero, suc, ◌+◌, ◌-◌, ◌/◌, ◌%◌, ◌<◌, ◌≤◌, max, true, false, eqb, ltb, List, [], ◌∷◌, ◌++◌, map, Some, Result, Ok, Err, refl, sym, ap, ◌∙◌, subst, inl, inr, arith}
+use Rattle.std.specs.Prelude.{IfOk, OnOk}
 use Rattle.std.specs.Char.{encode_utf8}
 use Rattle.std.specs.List.{AllByRecursion, flat_map}
 use Rattle.std.specs.Str.{is_utf8}
 use Rattle.std.proofs.lemmas.Bool.{cases_Bool, cases_lt, eqb-true, ltb-true, ltb-false, lt-ltb, le-ltb}
 use Rattle.std.proofs.lemmas.List.{append-nil}
-use Rattle.json_text.specs.declared.tree.Tree.{Tree, Tree-F, out-Tree, roll-out-Tree, map-Tree, fold-Tree, fold-roll-Tree, every_here-Tree, every_held-Tree}
-use Rattle.json_text.specs.Reading.{hex_value, meant}
+use Rattle.json_tree.specs.declared.tree.Tree.{Tree, Tree-F, out-Tree, roll-out-Tree, map-Tree, fold-Tree, fold-roll-Tree, every_here-Tree, every_held-Tree}
+use Rattle.json_text.specs.Reading.{hex_value, meant, tree_of_text}
 use Rattle.json_text.specs.Grammar.{IsUnit, AreChars, none, plain, letter, unit, IsString, AreMore, AreListed, IsMember, IsOne, IsArray, IsObject, Json}
 use Rattle.json_text.specs.Print.{hex_digit_of, escaped, quoted, behind_commas, with_commas, member_text, print_step, text_of, items_text, entry_text, entries_text}
-use Rattle.json_text.specs.Printing.{largest, levels_step, levels_of, IsKept, AllKept, PrintIsJson, PrintIsRead}
+use Rattle.json_tree.specs.Levels.{levels_of, items_levels, field_levels}
+use Rattle.json_tree.specs.WellFormed.{AreNames, IsWellFormedLevel, IsWellFormed, AreWellFormedItems, AreWellFormedFields}
+use Rattle.json_tree.proofs.Levels.{levels_at, levels_out, fields_same}
+use Rattle.json_tree.proofs.WellFormed.{HoldsWellFormed, here_well, held_well}
+use Rattle.json_text.specs.Printing.{PrintIsJson, PrintIsRead}
 use Rattle.json_text.proofs.FoundStrings.{differs}
 use Rattle.json_text.proofs.Spelled.{json_read}
 
@@ -109,53 +114,8 @@ module _ {A : Type 0} (V : List ℕ → A → Type 0) (text : A → List ℕ) wh
   listed [] h = refl
   listed (x ∷ xs) h = ([], text x, [], behind_commas (map text xs), refl, h.0, refl, more_printed xs h.1, refl)
 
--- ---- what is kept of the parts
-
-abbrev Held : Type 0
-Held = (t : Tree) × AllKept t
-
-abbrev on_tree : List ℕ × Held → List ℕ × Tree
-on_tree e = (e.0, e.1.0)
-
-abbrev HeldKept : Tree-F Tree → Type 0
-HeldKept (Tree-F.Items ts) = AllByRecursion AllKept ts
-HeldKept (Tree-F.Object es) = AllByRecursion (λ e. AllKept e.1) es
-HeldKept _ = Unit {0}
-
-items_held : (hs : List Held) → AllByRecursion AllKept (map (λ (h : Held). h.0) hs)
-items_held [] = tt
-items_held (h ∷ hs) = (h.1, items_held hs)
-
-fields_held : (hs : List (List ℕ × Held)) → AllByRecursion (λ e. AllKept e.1) (map on_tree hs)
-fields_held [] = tt
-fields_held (h ∷ hs) = (h.1.1, fields_held hs)
-
-all_held : (y : Tree-F Held) → HeldKept (map-Tree Held Tree (λ h. h.0) y)
-all_held (Tree-F.Items hs) = items_held hs
-all_held (Tree-F.Object hs) = fields_held hs
-all_held _ = tt
-
-pub held_kept : (t : Tree) → AllKept t → HeldKept (out-Tree t)
-held_kept t k = let y = every_held-Tree IsKept t k in subst HeldKept y.1 (all_held y.0)
-
--- ---- levels
-
-abbrev pub levels_at : Tree-F Tree → ℕ
-levels_at x = levels_step (map-Tree Tree ℕ levels_of x)
-
-levels_out : (t : Tree) → levels_of t ≡ levels_at (out-Tree t)
-unfolding levels_of
-levels_out t = ap (fold-Tree ℕ levels_step) (sym (roll-out-Tree t)) ∙ fold-roll-Tree ℕ levels_step (out-Tree t)
-
 text_out : (t : Tree) → text_of t ≡ print_step (map-Tree Tree (List ℕ) text_of (out-Tree t))
 text_out t = ap text_of (sym (roll-out-Tree t)) ∙ fold-roll-Tree (List ℕ) print_step (out-Tree t)
-
-abbrev field_levels : List (List ℕ × Tree) → ℕ
-field_levels es = largest (map (λ e. levels_of e.1) es)
-
-fields_same : (es : List (List ℕ × Tree)) → largest (map (λ (e : List ℕ × ℕ). e.1) (map (λ (e : List ℕ × Tree). (e.0, levels_of e.1)) es)) ≡ field_levels es
-fields_same [] = refl
-fields_same (e ∷ es) = ap (λ (n : ℕ). max (levels_of e.1) n) (fields_same es)
 
 -- ---- one level
 
@@ -164,9 +124,9 @@ texts_same [] = refl
 texts_same (e ∷ es) = ap (λ (l : List (List ℕ)). entry_text e ∷ l) (texts_same es)
 
 module _ (A : List ℕ → List Tree → Type 0) (O : List ℕ → List (List ℕ × Tree) → Type 0) (n : ℕ)
-    (arrays : (ts : List Tree) → AllByRecursion AllKept ts → suc (largest (map levels_of ts)) ≤ n → A (91 ∷ (items_text ts ++ 93 ∷ [])) ts)
-    (objects : (es : List (List ℕ × Tree)) → IsKept (Tree-F.Object es) → AllByRecursion (λ e. AllKept e.1) es → suc (field_levels es) ≤ n → O (123 ∷ (entries_text es ++ 125 ∷ [])) es) where
-  level_printed : (x : Tree-F Tree) → IsKept x → HeldKept x → levels_at x ≤ n → IsOne A O (print_step (map-Tree Tree (List ℕ) text_of x)) x
+    (arrays : (ts : List Tree) → AreWellFormedItems ts → suc (items_levels ts) ≤ n → A (91 ∷ (items_text ts ++ 93 ∷ [])) ts)
+    (objects : (es : List (List ℕ × Tree)) → AreNames es → AreWellFormedFields es → suc (field_levels es) ≤ n → O (123 ∷ (entries_text es ++ 125 ∷ [])) es) where
+  level_printed : (x : Tree-F Tree) → IsWellFormedLevel x → HoldsWellFormed x → levels_at x ≤ n → IsOne A O (print_step (map-Tree Tree (List ℕ) text_of x)) x
   level_printed Tree-F.Null k h le = refl
   level_printed (Tree-F.Bool true) k h le = refl
   level_printed (Tree-F.Bool false) k h le = refl
@@ -176,27 +136,27 @@ module _ (A : List ℕ → List Tree → Type 0) (O : List ℕ → List (List �
   level_printed (Tree-F.Object es) k h le =
       subst (λ (ms : List (List ℕ)). O (123 ∷ (with_commas ms ++ 125 ∷ [])) es) (sym (texts_same es)) (objects es k h (omega (arith, le, fields_same es)))
 
-  value_printed : (t : Tree) → AllKept t → levels_of t ≤ n → IsOne A O (text_of t) (out-Tree t)
+  value_printed : (t : Tree) → IsWellFormed t → levels_of t ≤ n → IsOne A O (text_of t) (out-Tree t)
   value_printed t k le =
-      subst (λ (b : List ℕ). IsOne A O b (out-Tree t)) (sym (text_out t)) (level_printed (out-Tree t) (every_here-Tree IsKept t k) (held_kept t k) (omega (arith, le, levels_out t)))
+      subst (λ (b : List ℕ). IsOne A O b (out-Tree t)) (sym (text_out t)) (level_printed (out-Tree t) (here_well t k) (held_well t k) (omega (arith, le, levels_out t)))
 
-  items_printed : (ts : List Tree) → AllByRecursion AllKept ts → largest (map levels_of ts) ≤ n → AllByRecursion (λ t. IsOne A O (text_of t) (out-Tree t)) ts
+  items_printed : (ts : List Tree) → AreWellFormedItems ts → items_levels ts ≤ n → AllByRecursion (λ t. IsOne A O (text_of t) (out-Tree t)) ts
   items_printed [] k le = tt
   items_printed (t ∷ ts) k le = (value_printed t k.0 (omega arith), items_printed ts k.1 (omega arith))
 
-  members_printed : (es : List (List ℕ × Tree)) → AllByRecursion (λ e. is_utf8 e.0 ≡ true) es → AllByRecursion (λ e. AllKept e.1) es → field_levels es ≤ n → AllByRecursion (λ e. IsMember (λ c t. IsOne A O c (out-Tree t)) (entry_text e) e) es
+  members_printed : (es : List (List ℕ × Tree)) → AllByRecursion (λ e. is_utf8 e.0 ≡ true) es → AreWellFormedFields es → field_levels es ≤ n → AllByRecursion (λ e. IsMember (λ c t. IsOne A O c (out-Tree t)) (entry_text e) e) es
   members_printed [] u k le = tt
   members_printed (e ∷ es) u k le = ((quoted e.0, [], [], text_of e.1, string_printed e.0 u.0, refl, refl, value_printed e.1 k.0 (omega arith), refl), members_printed es u.1 k.1 (omega arith))
 
 mutual
   unfolding IsArray
 
-  array_printed : (n : ℕ) (ts : List Tree) → AllByRecursion AllKept ts → suc (largest (map levels_of ts)) ≤ n → IsArray n (91 ∷ (items_text ts ++ 93 ∷ [])) ts
+  array_printed : (n : ℕ) (ts : List Tree) → AreWellFormedItems ts → suc (items_levels ts) ≤ n → IsArray n (91 ∷ (items_text ts ++ 93 ∷ [])) ts
   array_printed zero ts k le = absurd (omega arith)
   array_printed (suc n) ts k le =
       (items_text ts, listed (λ c t. IsOne (IsArray n) (IsObject n) c (out-Tree t)) text_of ts (items_printed (IsArray n) (IsObject n) n (array_printed n) (object_printed n) ts k (omega arith)), refl)
 
-  object_printed : (n : ℕ) (es : List (List ℕ × Tree)) → IsKept (Tree-F.Object es) → AllByRecursion (λ e. AllKept e.1) es → suc (field_levels es) ≤ n → IsObject n (123 ∷ (entries_text es ++ 125 ∷ [])) es
+  object_printed : (n : ℕ) (es : List (List ℕ × Tree)) → AreNames es → AreWellFormedFields es → suc (field_levels es) ≤ n → IsObject n (123 ∷ (entries_text es ++ 125 ∷ [])) es
   object_printed zero es k h le = absurd (omega arith)
   object_printed (suc n) es k h le = (
     entries_text es,
@@ -213,3 +173,8 @@ print_json t k le = ([], text_of t, [], refl, value_printed (IsArray 256) (IsObj
 
 pub print_read : PrintIsRead
 print_read t k le = json_read (text_of t) t (print_json t k le)
+
+-- the text that a call printed
+pub printed_back : {E : Type 0} (r : Result (List ℕ) E) (t : Tree) → IfOk r (λ x. x ≡ text_of t) → OnOk r (IsWellFormed t) → levels_of t ≤ 256 → IfOk r (λ x. tree_of_text x ≡ Ok t)
+printed_back (Ok x) t e k le = ap tree_of_text e ∙ print_read t k le
+printed_back (Err e) t h k le = tt

@@ -3,7 +3,8 @@ use Rattle.std.proofs.Common.{◌≡◌, ℕ, suc, ◌+◌, ◌<◌, true, false
 use Rattle.std.proofs.Math.Seq.{drop-cons}
 use Rattle.std.proofs.lemmas.List.{drop_all}
 use Rattle.std.proofs.lemmas.Bool.{eq-eqb, ne_eqb}
-use Rattle.json_text.specs.Reading.{is_space, after_space, is_digit, after_digits, word_at}
+use Rattle.json_tree.specs.Numbers.{is_digit}
+use Rattle.json_text.specs.Reading.{is_space, after_space, after_digits, word_at}
 
 pub space_skips : (rest after : List ℕ) (b : ℕ) → rest ≡ b ∷ after → is_space b ≡ true → after_space after ≡ after_space rest
 unfolding after_space

@@ -6,9 +6,10 @@ use Rattle.std.proofs.lemmas.Bool.{and_parts, eq-eqb, ne_eqb, eqb-true}
 use Rattle.std.proofs.lemmas.List.{append-nil, length-append}
 use Rattle.std.proofs.lemmas.Slice.Eq.{bytes_eq-Decides}
 use Rattle.containers.specs.Entries.{IsAbsent, AreDistinct, names_of}
-use Rattle.json_text.specs.declared.tree.Tree.{Tree, Tree-F, out-Tree, roll-Tree, roll-out-Tree}
-use Rattle.json_text.specs.declared.tree.Tree.TheVariants as trees
-use Rattle.json_text.specs.Reading.{◌>>=◌, Taken, place, is_space, after_space, is_digit, steps_at, word_at, number_at, Reader, more_at, item_at, name_at, colon_at, member_at, closing, list_at, value_with, array_at, object_at, value_at, tree_of_text}
+use Rattle.json_tree.specs.declared.tree.Tree.{Tree, Tree-F, out-Tree, roll-Tree, roll-out-Tree}
+use Rattle.json_tree.specs.declared.tree.Tree.TheVariants as trees
+use Rattle.json_tree.specs.Numbers.{is_digit}
+use Rattle.json_text.specs.Reading.{◌>>=◌, Taken, place, is_space, after_space, steps_at, word_at, number_at, Reader, more_at, item_at, name_at, colon_at, member_at, closing, list_at, value_with, array_at, object_at, value_at, tree_of_text}
 use Rattle.json_text.specs.Grammar.{IsSpace, AreMore, AreListed, IsMember, IsOne, IsArray, IsObject, Json, JsonIsRead}
 use Rattle.json_text.proofs.Numerals.{NoSpace, spaced, Stops, number_read, number_first}
 use Rattle.json_text.proofs.Strings.{string_read}

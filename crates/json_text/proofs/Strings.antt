@@ -4,7 +4,8 @@ use Rattle.std.specs.Char.{encode_utf8}
 use Rattle.std.specs.Str.{is_utf8}
 use Rattle.std.proofs.lemmas.Bool.{cases_Bool, and_parts, ne_eqb, lt-ltb, le-ltb, eqb-true, ltb-true}
 use Rattle.std.proofs.lemmas.List.{length-append}
-use Rattle.json_text.specs.Reading.{Taken, place, steps_at, word_at, is_digit, hex_value, within, hex_at, unit_at, low_at, unicode_at, meant, escape_at, piece_at, string_at}
+use Rattle.json_tree.specs.Numbers.{is_digit}
+use Rattle.json_text.specs.Reading.{Taken, place, steps_at, word_at, hex_value, within, hex_at, unit_at, low_at, unicode_at, meant, escape_at, piece_at, string_at}
 use Rattle.json_text.specs.Grammar.{IsUnit, AreChars, none, plain, letter, unit, surrogates}
 
 hex_case : (b v : ℕ) (x y z : Truth) → is_digit b ≡ x → (ltb 64 b && ltb b 71) ≡ y → (ltb 96 b && ltb b 103) ≡ z → cond x (Some (b - 48)) (cond y (Some (b - 55)) (cond z (Some (b - 87)) None)) ≡ Some v → v ≤ 15

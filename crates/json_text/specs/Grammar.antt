@@ -1,44 +1,18 @@
 -- The grammar of JSON texts: which text spells which value.
-use Rattle.std.specs.Prelude.{◌≡◌, ◌≢◌, ◌⊎◌, ℕ, zero, suc, ◌+◌, ◌-◌, ◌*◌, ◌<◌, ◌≤◌, true, List, [], ◌∷◌, ◌++◌, length, Some, Ok, codes, if◌then◌else◌}
+use Rattle.std.specs.Prelude.{◌≡◌, ◌≢◌, ◌⊎◌, ℕ, zero, suc, ◌+◌, ◌-◌, ◌*◌, ◌<◌, ◌≤◌, true, List, [], ◌∷◌, ◌++◌, Some, Ok, codes, if◌then◌else◌}
 use Rattle.std.specs.Char.{encode_utf8}
 use Rattle.std.specs.List.{list_all}
 use Rattle.std.specs.Str.{is_utf8}
 use Rattle.containers.specs.Entries.{AreDistinct, names_of}
-use Rattle.json_text.specs.declared.tree.Tree.{Tree, out-Tree}
-use Rattle.json_text.specs.declared.tree.Tree.TheOpen.{Tree-F}
-use Rattle.json_text.specs.Reading.{is_space, is_digit, hex_value, meant, tree_of_text}
+use Rattle.json_tree.specs.declared.tree.Tree.{Tree, out-Tree}
+use Rattle.json_tree.specs.declared.tree.Tree.TheOpen.{Tree-F}
+use Rattle.json_tree.specs.Numbers.{IsNumber}
+use Rattle.json_text.specs.Reading.{is_space, hex_value, meant, tree_of_text}
 
--- ---- white space and numbers
+-- ---- white space
 
 abbrev pub IsSpace : List ℕ → Type 0
 IsSpace w = list_all is_space w ≡ true
-
--- one digit or more
-pub record AreDigits (ds : List ℕ) : Type 0 where
-  pub some : 0 < length ds
-  pub digits : list_all is_digit ds ≡ true
-
--- 0, or digits that begin with another one
-abbrev pub IsWhole : List ℕ → Type 0
-IsWhole [] = ⊥
-IsWhole (d ∷ ds) = ((d ≡ 48) × (ds ≡ [])) ⊎ ((d ≢ 48) × AreDigits (d ∷ ds))
-
--- a point and digits, or nothing
-abbrev pub IsFraction : List ℕ → Type 0
-IsFraction f = (f ≡ []) ⊎ ((ds : List ℕ) × AreDigits ds × (f ≡ 46 ∷ ds))
-
-abbrev pub IsSign : List ℕ → Type 0
-IsSign s = (s ≡ []) ⊎ (s ≡ 43 ∷ []) ⊎ (s ≡ 45 ∷ [])
-
--- an e, a sign or none, and digits, or nothing
-abbrev pub IsExponent : List ℕ → Type 0
-IsExponent x = (x ≡ []) ⊎ ((mark : ℕ) × (sign ds : List ℕ) × ((mark ≡ 101) ⊎ (mark ≡ 69)) × IsSign sign × AreDigits ds × (x ≡ mark ∷ (sign ++ ds)))
-
-abbrev pub IsMinus : List ℕ → Type 0
-IsMinus m = (m ≡ []) ⊎ (m ≡ 45 ∷ [])
-
-abbrev pub IsNumber : List ℕ → Type 0
-IsNumber t = (minus whole fraction exponent : List ℕ) × IsMinus minus × IsWhole whole × IsFraction fraction × IsExponent exponent × (t ≡ minus ++ (whole ++ (fraction ++ exponent)))
 
 -- ---- strings
 

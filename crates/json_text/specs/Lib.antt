@@ -1,4 +1,3 @@
-pub mod formers
 pub mod Reading
 pub mod Grammar
 pub mod Pieces

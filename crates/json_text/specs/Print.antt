@@ -1,8 +1,8 @@
 -- The text of a value: no spaces, and in strings as few escapes as may be.
 use Rattle.std.specs.Prelude.{ℕ, ◌+◌, ◌/◌, ◌%◌, List, [], ◌∷◌, ◌++◌, map, nat_lt, ◌==◌, if◌then◌else◌}
 use Rattle.std.specs.List.{flat_map}
-use Rattle.json_text.specs.declared.tree.Tree.{Tree, fold-Tree}
-use Rattle.json_text.specs.declared.tree.Tree.TheOpen.{Tree-F}
+use Rattle.json_tree.specs.declared.tree.Tree.{Tree, fold-Tree}
+use Rattle.json_tree.specs.declared.tree.Tree.TheOpen.{Tree-F}
 
 -- a hexadecimal digit in lower case
 abbrev pub hex_digit_of : ℕ → ℕ

@@ -4,10 +4,11 @@ use Rattle.std.specs.Prelude.{◌≡◌, ℕ, zero, suc, ◌+◌, ◌-◌, ◌*�
 use Rattle.std.specs.Char.{encode_utf8}
 use Rattle.std.specs.Str.{is_utf8}
 use Rattle.containers.specs.Entries.{place_of}
+use Rattle.json_tree.specs.Numbers.{is_digit}
 use Rattle.json_text.specs.declared.fault.JsonFault.{JsonFault}
 use Rattle.json_text.specs.declared.fault.JsonFault.TheVariants as errors
-use Rattle.json_text.specs.declared.tree.Tree.{Tree}
-use Rattle.json_text.specs.declared.tree.Tree.TheVariants as trees
+use Rattle.json_tree.specs.declared.tree.Tree.{Tree}
+use Rattle.json_tree.specs.declared.tree.Tree.TheVariants as trees
 
 infixl 10 ◌>>=◌
 abbrev pub ◌>>=◌ : {A B : Type 0} → Result A ℕ → (A → Result B ℕ) → Result B ℕ
@@ -58,9 +59,6 @@ unfoldable pub word_at : List ℕ → ℕ → ℕ → List ℕ → Result (List 
 word_at [] start end bytes = Ok bytes
 word_at (w ∷ word) start end [] = Err end
 word_at (w ∷ word) start end (b ∷ bytes) = if b == w then word_at word start end bytes else Err start
-
-abbrev pub is_digit : ℕ → Bool
-is_digit b = nat_lt 47 b && nat_lt b 58
 
 unfoldable pub after_digits : List ℕ → List ℕ
 after_digits [] = []

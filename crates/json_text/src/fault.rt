@@ -3,13 +3,16 @@ ghost use Rattle.std.specs.Prelude.{◌≡◌};
 ghost use Rattle.json_text.specs.declared.fault.JsonFault.TheVariants.{NoMemory};
 
 use std::alloc::{AllocError, AllocFailed};
+use thiserror::Error;
 
 /// Why a text was not read.
-#[derive(Clone, Copy, Debug, PartialEq, Eq)]
+#[derive(Clone, Copy, Debug, PartialEq, Eq, Error)]
 pub enum JsonFault {
+    #[error("no memory")]
     NoMemory,
     /// The text is no JSON text within the limits. `at` is the offset, in bytes, of the token with which
     /// that becomes certain, and the text's length where the text ends too early.
+    #[error("no JSON text at {at}")]
     Bad { at: usize },
 }
 

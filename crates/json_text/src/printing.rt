@@ -1,10 +1,13 @@
 //! Printing a value.
-ghost use Rattle.std.specs.Prelude.{◌≡◌, ◌+◌, ◌/◌, ◌%◌, ◌<◌, [], ◌∷◌, ◌++◌, ℕ, List, IfOk, OnOk, encode_utf8, string_bytes, map};
+ghost use Rattle.std.specs.Prelude.{◌≡◌, ◌+◌, ◌/◌, ◌%◌, ◌<◌, ◌≤◌, [], ◌∷◌, ◌++◌, ℕ, List, IfOk, OnOk, encode_utf8, string_bytes, map};
 ghost use Rattle.std.specs.List.{flat_map};
+ghost use Rattle.json_tree.specs.Levels.{levels_of};
+ghost use Rattle.json_tree.specs.WellFormed.{IsWellFormed, AreWellFormedItems, IsWellFormedEntry, AreWellFormedEntries};
+ghost use Rattle.json_text.specs.Reading.{tree_of_text};
 ghost use Rattle.json_text.specs.Print.{hex_digit_of, escaped, escaped_or, quoted, behind_commas, text_of, entry_text, items_text, entries_text};
 
-use crate::tree::{Fields, Tree};
 use containers::Text as JText;
+use json_tree::{Fields, Tree};
 use std::alloc::{AllocError, Global};
 
 fn hex_digit(n: u32) -> char
@@ -70,7 +73,8 @@ fn put_string(out: &mut String, text: &str) -> Result<(), AllocError>
 
 #[cycle(print)]
 fn put_tree(out: &mut String, tree: &Tree) -> Result<(), AllocError>
-    ensures { OnOk result (string_bytes out.new ≡ string_bytes out.old ++ text_of tree.now) }
+    ensures text { OnOk result (string_bytes out.new ≡ string_bytes out.old ++ text_of tree.now) }
+    ensures well_formed { OnOk result (IsWellFormed tree.now) }
 {
     match tree {
         Tree::Null => out.push_str("null"),
@@ -84,7 +88,8 @@ fn put_tree(out: &mut String, tree: &Tree) -> Result<(), AllocError>
 
 #[cycle(print)]
 fn put_array(out: &mut String, items: &[Tree]) -> Result<(), AllocError>
-    ensures { OnOk result (string_bytes out.new ≡ string_bytes out.old ++ 91 ∷ (items_text items.now ++ 93 ∷ [])) }
+    ensures text { OnOk result (string_bytes out.new ≡ string_bytes out.old ++ 91 ∷ (items_text items.now ++ 93 ∷ [])) }
+    ensures well_formed { OnOk result (AreWellFormedItems items.now) }
 {
     out.push_str("[")?;
     put_items(out, items)?;
@@ -93,7 +98,8 @@ fn put_array(out: &mut String, items: &[Tree]) -> Result<(), AllocError>
 
 #[cycle(print)]
 fn put_items(out: &mut String, items: &[Tree]) -> Result<(), AllocError>
-    ensures { OnOk result (string_bytes out.new ≡ string_bytes out.old ++ items_text items.now) }
+    ensures text { OnOk result (string_bytes out.new ≡ string_bytes out.old ++ items_text items.now) }
+    ensures well_formed { OnOk result (AreWellFormedItems items.now) }
 {
     for i in 0..items.len() {
         if i != 0 {
@@ -106,7 +112,8 @@ fn put_items(out: &mut String, items: &[Tree]) -> Result<(), AllocError>
 
 #[cycle(print)]
 fn put_object(out: &mut String, entries: &[(JText, Tree)]) -> Result<(), AllocError>
-    ensures { OnOk result (string_bytes out.new ≡ string_bytes out.old ++ 123 ∷ (entries_text entries.now ++ 125 ∷ [])) }
+    ensures text { OnOk result (string_bytes out.new ≡ string_bytes out.old ++ 123 ∷ (entries_text entries.now ++ 125 ∷ [])) }
+    ensures well_formed { OnOk result (AreWellFormedEntries entries.now) }
 {
     out.push_str("{")?;
     put_entries(out, entries)?;
@@ -115,7 +122,8 @@ fn put_object(out: &mut String, entries: &[(JText, Tree)]) -> Result<(), AllocEr
 
 #[cycle(print)]
 fn put_entries(out: &mut String, entries: &[(JText, Tree)]) -> Result<(), AllocError>
-    ensures { OnOk result (string_bytes out.new ≡ string_bytes out.old ++ entries_text entries.now) }
+    ensures text { OnOk result (string_bytes out.new ≡ string_bytes out.old ++ entries_text entries.now) }
+    ensures well_formed { OnOk result (AreWellFormedEntries entries.now) }
 {
     for i in 0..entries.len() {
         if i != 0 {
@@ -128,19 +136,31 @@ fn put_entries(out: &mut String, entries: &[(JText, Tree)]) -> Result<(), AllocE
 
 #[cycle(print)]
 fn put_entry(out: &mut String, entry: &(JText, Tree)) -> Result<(), AllocError>
-    ensures { OnOk result (string_bytes out.new ≡ string_bytes out.old ++ entry_text entry.now) }
+    ensures text { OnOk result (string_bytes out.new ≡ string_bytes out.old ++ entry_text entry.now) }
+    ensures well_formed { OnOk result (IsWellFormedEntry entry.now) }
 {
     put_string(out, entry.0.as_str())?;
     out.push_str(":")?;
     put_tree(out, &entry.1)
 }
 
-/// The text of a value, without spaces. In strings the quote, the backslash and the characters below
-/// U+0020 are escaped, each by its letter where it has one, and nothing else. A number prints as its text.
-pub fn print(alloc: Global, tree: &Tree) -> Result<JText, AllocError>
-    ensures { IfOk result (λ text. text ≡ text_of tree.now) }
+fn printed(alloc: Global, tree: &Tree) -> Result<JText, AllocError>
+    ensures text { IfOk result (λ text. text ≡ text_of tree.now) }
+    ensures well_formed { OnOk result (IsWellFormed tree.now) }
 {
     let mut out = String::new(alloc);
     put_tree(&mut out, tree)?;
     Ok(JText::from_string(out))
+}
+
+/// The text of a value, without spaces. In strings the quote, the backslash and the characters below
+/// U+0020 are escaped, each by its letter where it has one, and nothing else. A number prints as its text.
+pub fn print(alloc: Global, tree: &Tree) -> Result<JText, AllocError>
+    ensures text { IfOk result (λ text. text ≡ text_of tree.now) }
+    ensures well_formed { OnOk result (IsWellFormed tree.now) }
+
+    // What is printed is read as the value.
+    ensures read { levels_of tree.now ≤ 256 → IfOk result (λ text. tree_of_text text ≡ Ok tree.now) }
+{
+    printed(alloc, tree)
 }

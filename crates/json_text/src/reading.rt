@@ -1,15 +1,16 @@
 //! Reading a JSON text.
-ghost use Rattle.std.specs.Prelude.{◌≡◌, ◌+◌, ◌-◌, ◌*◌, ◌<◌, ◌≤◌, ◌==◌, [], ◌∷◌, ◌++◌, ℕ, List, length, take, drop, IfOk, IfSome, IfNone, true, false};
+ghost use Rattle.std.specs.Prelude.{◌≡◌, ◌+◌, ◌-◌, ◌*◌, ◌<◌, ◌≤◌, ◌==◌, [], ◌∷◌, ◌++◌, ℕ, List, length, take, drop, IfOk, IfSome, true, false};
 ghost use Rattle.std.specs.Option.{option_copied};
-ghost use Rattle.containers.specs.Entries.{IsAbsent, AreDistinct, names_of, place_of};
+ghost use Rattle.containers.specs.Entries.{IsAbsent, names_of};
 ghost use Rattle.json_text.specs.Reading.{Gives, after_space, more_at, item_at, name_at, colon_at, member_at, closing, list_at, value_at, array_at, object_at, tree_of_text};
-ghost use Rattle.json_text.specs.declared.tree.Tree.{Tree as Datum};
+ghost use Rattle.json_tree.specs.Levels.{levels_of};
+ghost use Rattle.json_tree.specs.WellFormed.{IsWellFormed};
+ghost use Rattle.json_tree.specs.declared.tree.Tree.{Tree as Datum};
 
 use crate::fault::JsonFault;
-use crate::members::Members;
 use crate::tokens::{bad, number, space, string, word};
-use crate::tree::{Fields, Tree};
 use containers::{List as JList, Text as JText};
+use json_tree::{Fields, MembersBuilder, Tree};
 use std::alloc::Global;
 
 // Whether another one follows, and the bytes behind the comma and the space, or behind the end.
@@ -50,32 +51,18 @@ fn colon(end: usize, bytes: &[u8]) -> Result<&[u8], JsonFault>
     }
 }
 
-fn find(entries: &[(JText, Tree)], name: &str) -> Option<usize>
-    ensures { result ≡ place_of name.now entries.now }
-{
-    entries.iter().position(|entry| entry.0.as_str() == name)
-}
-
-#[tactic(auto, using(containers::proofs::Entries::none_is_absent))]
-fn place(entries: &[(JText, Tree)], name: &str) -> Option<usize>
-    ensures place { result ≡ place_of name.now entries.now }
-    ensures absent { IfNone result (IsAbsent name.now (names_of entries.now)) }
-{
-    find(entries, name)
-}
-
 // A name that isn't among these.
 #[tactic(auto, unfolding(crate::specs::Reading::name_at))]
 fn name<'a>(
     alloc: Global,
     end: usize,
-    entries: &[(JText, Tree)],
+    before: &MembersBuilder<Tree>,
     bytes: &'a [u8],
 ) -> Result<(JText, &'a [u8]), JsonFault>
     requires { length bytes.now ≤ end }
-    ensures gives { Gives (λ x. (x.0, x.1.now)) result (name_at end entries.now bytes.now) }
+    ensures gives { Gives (λ x. (x.0, x.1.now)) result (name_at end before.now bytes.now) }
     ensures fits { IfOk result (λ x. length x.1.now ≤ length bytes.now) }
-    ensures absent { IfOk result (λ x. IsAbsent x.0 (names_of entries.now)) }
+    ensures absent { IfOk result (λ x. IsAbsent x.0 (names_of before.now)) }
 {
     match bytes {
         [] => Err(bad(end)),
@@ -84,10 +71,10 @@ fn name<'a>(
                 return Err(bad(end - bytes.len()));
             }
             let (name, after) = string(alloc, end, rest)?;
-            match place(entries, name.as_str()) {
-                Some(_) => Err(bad(end - bytes.len())),
-                None => Ok((name, after)),
+            if before.has(name.as_str()) {
+                return Err(bad(end - bytes.len()));
             }
+            Ok((name, after))
         }
     }
 }
@@ -230,15 +217,15 @@ fn member<'a>(
     alloc: Global,
     levels: usize,
     end: usize,
-    entries: &[(JText, Tree)],
+    before: &MembersBuilder<Tree>,
     bytes: &'a [u8],
 ) -> Result<((JText, Tree), bool, &'a [u8]), JsonFault>
     requires { length bytes.now ≤ end }
-    ensures gives { Gives (λ x. ((x.0 ∷ [], x.1), x.2.now)) result (member_at (value_at levels) end entries.now bytes.now) }
+    ensures gives { Gives (λ x. ((x.0 ∷ [], x.1), x.2.now)) result (member_at (value_at levels) end before.now bytes.now) }
     ensures fits { IfOk result (λ x. length x.2.now < length bytes.now) }
-    ensures absent { IfOk result (λ x. IsAbsent x.0.0 (names_of entries.now)) }
+    ensures absent { IfOk result (λ x. IsAbsent x.0.0 (names_of before.now)) }
 {
-    let (name, rest) = name(alloc, end, entries, bytes)?;
+    let (name, rest) = name(alloc, end, before, bytes)?;
     let rest = colon(end, space(rest))?;
     let (tree, rest) = value(alloc, levels, end, rest)?;
     let (more, after) = more(b'}', end, space(rest))?;
@@ -256,25 +243,24 @@ fn members(
     ensures gives { Gives (λ x. (x.0, x.1.now)) result (list_at 125 (member_at (value_at levels) end) end bytes.now) }
     ensures fits { IfOk result (λ x. length x.1.now ≤ length bytes.now) }
 {
+    let mut before = MembersBuilder::new(alloc);
     if let Some(after) = closed(b'}', bytes) {
-        return Ok((Members::new(alloc), after));
+        return Ok((before.into_members(), after));
     }
-    let mut entries = Vec::new(alloc);
     let mut rest = bytes;
     'members: loop {
-        let (entry, more, after) = member(alloc, levels, end, entries.as_slice(), rest)?;
-        entries.push(entry)?;
+        let ((name, tree), more, after) = member(alloc, levels, end, &before, rest)?;
+        before = before.with(alloc, name, tree)?;
         if !more {
-            return Ok((Members::of_distinct(entries), after));
+            return Ok((before.into_members(), after));
         }
         rest = after;
     }
 }
 
-/// The value that the text is: one JSON text (RFC 8259) with distinct names in each object, paired
-/// surrogates and at most 256 levels of arrays and objects.
+// The whole text.
 #[tactic(auto, unfolding(crate::specs::Reading::tree_of_text))]
-pub fn parse(alloc: Global, text: &str) -> Result<Tree, JsonFault>
+fn whole(alloc: Global, text: &str) -> Result<Tree, JsonFault>
     ensures { Gives (λ t. t) result (tree_of_text text.now) }
 {
     let bytes = text.as_bytes();
@@ -285,4 +271,17 @@ pub fn parse(alloc: Global, text: &str) -> Result<Tree, JsonFault>
         return Err(bad(end - rest.len()));
     }
     Ok(tree)
+}
+
+/// The value that the text is: one JSON text (RFC 8259) with distinct names in each object, paired
+/// surrogates and at most 256 levels of arrays and objects.
+///
+/// The time is n log n for a text of n bytes: a name is looked for in a set where its object has more than
+/// some tens.
+pub fn parse(alloc: Global, text: &str) -> Result<Tree, JsonFault>
+    ensures gives { Gives (λ t. t) result (tree_of_text text.now) }
+    ensures well_formed { IfOk result (λ t. IsWellFormed t) }
+    ensures levels { IfOk result (λ t. levels_of t ≤ 256) }
+{
+    whole(alloc, text)
 }

@@ -2,11 +2,13 @@
 //! A token fails at its start, or at the end where the text ends in it.
 ghost use Rattle.std.specs.Prelude.{◌≡◌, ◌+◌, ◌-◌, ◌*◌, ◌<◌, ◌≤◌, ◌⊎◌, suc, ◌==◌, [], ◌∷◌, ◌++◌, ℕ, List, length, take, drop, IfOk, OnOk, MatchOption, true, false, if◌then◌else◌};
 ghost use Rattle.std.specs.Str.{is_utf8};
-ghost use Rattle.json_text.specs.Reading.{Gives, is_space, after_space, word_at, is_digit, after_digits, digits_at, whole_at, after_minus, after_sign, fraction_at, exponent_at, after_number, number_at, hex_value, within, hex_at, unit_at, low_at, unicode_at, meant, escape_at, piece_at, steps_at, string_at};
+ghost use Rattle.json_tree.specs.Numbers.{is_digit};
+ghost use Rattle.json_text.specs.Reading.{Gives, is_space, after_space, word_at, after_digits, digits_at, whole_at, after_minus, after_sign, fraction_at, exponent_at, after_number, number_at, hex_value, within, hex_at, unit_at, low_at, unicode_at, meant, escape_at, piece_at, steps_at, string_at};
 ghost use Rattle.json_text.specs.Pieces.{bytes_of, goes_on};
 
 use crate::fault::JsonFault;
 use containers::Text as JText;
+use json_tree::Number;
 use std::alloc::{AllocError, Global};
 
 pub(crate) fn bad(at: usize) -> JsonFault
@@ -204,13 +206,13 @@ pub(crate) fn number(
     start: usize,
     end: usize,
     bytes: &[u8],
-) -> Result<(JText, &[u8]), JsonFault>
+) -> Result<(Number, &[u8]), JsonFault>
     ensures gives { Gives (λ x. (x.0, x.1.now)) result (number_at start end bytes.now) }
     ensures fits { IfOk result (λ x. length x.1.now ≤ length bytes.now) }
 {
     let rest = past_number(start, end, bytes)?;
     match text_of(&bytes[..bytes.len() - rest.len()]) {
-        Some(text) => Ok((JText::of(alloc, text)?, rest)),
+        Some(text) => Ok((Number::of(JText::of(alloc, text)?), rest)),
         None => Err(bad(start)),
     }
 }

@@ -10,7 +10,7 @@ use Rattle.std.specs.String.{string_cmp}
 use Rattle.std.specs.BTreeMap.{insert_entry}
 use Rattle.std.specs.declared.alloc.Global.{Global}
 use Rattle.std.proofs.lemmas.List.{take_more, take_all}
-use Rattle.json_text.specs.declared.tree.Tree.{Tree}
+use Rattle.json_tree.specs.declared.tree.Tree.{Tree}
 use Rattle.metadata_text.specs.Metadata.{Named, definition_name, name_first, named, put_in_order, in_order, by_bytes, trees_of, definitions_of}
 
 abbrev Entry : Type 0

@@ -1,6 +1,6 @@
 -- A metadata text means what it was written of.
-use Rattle.std.proofs.Common.{◌≡◌, ℕ, suc, ◌≤◌, max, Bool as Truth, true, false, eqb, ltb, List, [], ◌∷◌, ◌++◌, length, map, Option, Some, None, Ok, refl, sym, ap, ◌∙◌, subst, append_assoc, arith}
-use Rattle.std.specs.Prelude.{fold, codes}
+use Rattle.std.proofs.Common.{◌≡◌, ℕ, suc, ◌≤◌, max, Bool as Truth, true, false, eqb, ltb, List, [], ◌∷◌, ◌++◌, length, map, Option, Some, None, Result, Ok, Err, refl, sym, ap, ◌∙◌, subst, append_assoc, arith}
+use Rattle.std.specs.Prelude.{fold, codes, IfOk, OnOk}
 use Rattle.std.specs.Ordering.{nat_cmp}
 use Rattle.std.specs.declared.cmp.Ordering.TheVariants.{Greater}
 use Rattle.std.specs.Cmp.Lexicographic.{slice_cmp}
@@ -12,14 +12,16 @@ use Rattle.std.proofs.lemmas.Str.Ascii.{IsAscii-cons, IsAscii-nil}
 use Rattle.std.specs.BTreeMap.{insert_entry}
 use Rattle.std.proofs.lemmas.List.{append-nil}
 use Rattle.std.proofs.lemmas.Slice.Eq.{bytes_eq-Decides}
-use Rattle.json_text.specs.declared.tree.Tree.{Tree, Tree-F, every_made-Tree, fold-roll-Tree}
-use Rattle.json_text.specs.declared.tree.Tree.TheVariants as trees
+use Rattle.json_tree.specs.declared.tree.Tree.{Tree, Tree-F, fold-roll-Tree}
+use Rattle.json_tree.specs.declared.tree.Tree.TheVariants as trees
 use Rattle.json_text.specs.Print.{text_of, print_step}
-use Rattle.json_text.specs.Printing.{largest, levels_step, levels_of, IsKept, AllKept}
+use Rattle.json_tree.specs.Levels.{largest, levels_step, levels_of}
+use Rattle.json_tree.specs.WellFormed.{IsWellFormed, AreWellFormedItems}
+use Rattle.json_tree.proofs.WellFormed.{well_str, well_items, well_object}
 use Rattle.json_text.proofs.Reprinted.{print_read}
 use Rattle.extjson.specs.Trees.{wrapped}
 use Rattle.metadata_text.specs.Metadata.{Named, definition_name, name_first, named, put_in_order, in_order, trees_of, definitions_of, is_object_at, name_at, text_at, is_object, options_of, indexes_at, indexes_of, metadata_of, id_definition, metadata_tree}
-use Rattle.metadata_text.specs.RoundTrip.{AllBehind, AreRising, AreOthers, IsShallow, AreWritable, WrittenIsRead}
+use Rattle.metadata_text.specs.RoundTrip.{AllBehind, AreRising, AreOthers, AreNormal, AreShallow, WrittenIsRead}
 use Rattle.metadata_text.proofs.Shapes.{both_there}
 
 -- ---- names that rise stay as they are
@@ -96,7 +98,7 @@ definitions_back : (ds : List Tree) (es : Named) → named ds ≡ Some es → Ar
 unfolding definitions_of in_order named
 definitions_back ds es h r o = rw (id_named, h) (ap (λ (l : Named). Some (trees_of l)) (stay es [] r o (none_before es)) ∙ ap (λ (l : List Tree). Some l) (same_trees ds es h))
 
-module _ (coll : List ℕ) (options : Tree) (defs : List Tree) (w : AreWritable coll options defs) where
+module _ (coll : List ℕ) (options : Tree) (defs : List Tree) (text : is_utf8 coll ≡ true) (formed : IsWellFormed options) (formed_defs : AreWellFormedItems defs) (shallow : AreShallow options defs) (w : AreNormal options defs) where
   abbrev fields : List (List ℕ × Tree)
   fields = (codes "options", options) ∷ (codes "indexes", trees.Items (id_definition ∷ defs)) ∷ (codes "collectionName", trees.Str coll) ∷ (codes "type", trees.Str (codes "collection")) ∷ []
 
@@ -108,59 +110,28 @@ module _ (coll : List ℕ) (options : Tree) (defs : List Tree) (w : AreWritable 
   unfolding indexes_of
   indexes_back = ap indexes_at (trees.outs-Items (id_definition ∷ defs)) ∙ definitions_back defs w.names w.named_so w.rising w.others
 
-  -- ---- the tree is kept
+  -- ---- the tree is well-formed
 
-  abbrev Held : Type 0
-  Held = (t : Tree) × AllKept t
+  well_wrapped : (name : List ℕ) (t : Tree) → is_utf8 name ≡ true → IsWellFormed t → IsWellFormed (wrapped name t)
+  well_wrapped name t u k = well_object ((name, t) ∷ []) (((tt, tt)), (u, tt)) (k, tt)
 
-  abbrev on_tree : List ℕ × Held → List ℕ × Tree
-  on_tree e = (e.0, e.1.0)
+  well_int : (t : List ℕ) → is_utf8 t ≡ true → IsWellFormed (int_text t)
+  well_int t u = well_wrapped (codes "$numberInt") (trees.Str t) (ascii (codes "$numberInt") refl) (well_str t u)
 
-  held_items : (ts : List Tree) → AllByRecursion AllKept ts → (hs : List Held) × (map (λ (h : Held). h.0) hs ≡ ts)
-  held_items [] k = ([], refl)
-  held_items (t ∷ ts) k = let r = held_items ts k.1 in ((t, k.0) ∷ r.0, ap (λ (l : List Tree). t ∷ l) r.1)
-
-  held_fields : (es : List (List ℕ × Tree)) → AllByRecursion (λ e. AllKept e.1) es → (hs : List (List ℕ × Held)) × (map on_tree hs ≡ es)
-  held_fields [] k = ([], refl)
-  held_fields (e ∷ es) k = let r = held_fields es k.1 in ((e.0, (e.1, k.0)) ∷ r.0, ap (λ (l : List (List ℕ × Tree)). e ∷ l) r.1)
-
-  kept_object : (es : List (List ℕ × Tree)) → IsKept (Tree-F.Object es) → AllByRecursion (λ e. AllKept e.1) es → AllKept (trees.Object es)
-  kept_object es k h =
-      let r = held_fields es h in
-      subst AllKept (trees.rolls-Object es) (every_made-Tree IsKept (Tree-F.Object es) (Tree-F.Object r.0) (ap (λ (l : List (List ℕ × Tree)). Tree-F.Object l) r.1) k)
-
-  kept_items : (ts : List Tree) → AllByRecursion AllKept ts → AllKept (trees.Items ts)
-  kept_items ts h =
-      let r = held_items ts h in
-      subst AllKept (trees.rolls-Items ts) (every_made-Tree IsKept (Tree-F.Items ts) (Tree-F.Items r.0) (ap (λ (l : List Tree). Tree-F.Items l) r.1) tt)
-
-  kept_str : (t : List ℕ) → is_utf8 t ≡ true → AllKept (trees.Str t)
-  kept_str t h = subst AllKept (trees.rolls-Str t) (every_made-Tree IsKept (Tree-F.Str t) (Tree-F.Str t) refl h)
-
-  kept_one : (name : List ℕ) (t : Tree) → is_utf8 name ≡ true → AllKept t → AllKept (wrapped name t)
-  kept_one name t u k = kept_object ((name, t) ∷ []) (((tt, tt)), (u, tt)) (k, tt)
-
-  kept_int : (t : List ℕ) → is_utf8 t ≡ true → AllKept (int_text t)
-  kept_int t u = kept_one (codes "$numberInt") (trees.Str t) (ascii (codes "$numberInt") refl) (kept_str t u)
-
-  kept_id : AllKept id_definition
-  kept_id = kept_object id_fields
+  well_id : IsWellFormed id_definition
+  well_id = well_object id_fields
       (((differ (codes "v") (codes "key") refl, (differ (codes "v") (codes "name") refl, tt)), ((differ (codes "key") (codes "name") refl, tt), (tt, tt))), (ascii (codes "v") refl, (ascii (codes "key") refl, (ascii (codes "name") refl, tt))))
-      (kept_int (codes "2") (ascii (codes "2") refl), (kept_one (codes "_id") (int_text (codes "1")) (ascii (codes "_id") refl) (kept_int (codes "1") (ascii (codes "1") refl)), (kept_str (codes "_id_") (ascii (codes "_id_") refl), tt)))
+      (well_int (codes "2") (ascii (codes "2") refl), (well_wrapped (codes "_id") (int_text (codes "1")) (ascii (codes "_id") refl) (well_int (codes "1") (ascii (codes "1") refl)), (well_str (codes "_id_") (ascii (codes "_id_") refl), tt)))
 
-  kept_defs : (ds : List Tree) → AllByRecursion IsShallow ds → AllByRecursion AllKept ds
-  kept_defs [] h = tt
-  kept_defs (d ∷ ds) h = (h.0.kept, kept_defs ds h.1)
-
-  kept_all : AllKept (trees.Object fields)
-  kept_all = kept_object fields (
+  well_all : IsWellFormed (trees.Object fields)
+  well_all = well_object fields (
     (
       (differ (codes "options") (codes "indexes") refl, (differ (codes "options") (codes "collectionName") refl, (differ (codes "options") (codes "type") refl, tt))),
       ((differ (codes "indexes") (codes "collectionName") refl, (differ (codes "indexes") (codes "type") refl, tt)), ((differ (codes "collectionName") (codes "type") refl, tt), (tt, tt))),
     ),
     (ascii (codes "options") refl, (ascii (codes "indexes") refl, (ascii (codes "collectionName") refl, (ascii (codes "type") refl, tt)))),
   )
-      (w.shallow.kept, (kept_items (id_definition ∷ defs) (kept_id, kept_defs defs w.shallow_defs), (kept_str coll w.text, (kept_str (codes "collection") (ascii (codes "collection") refl), tt))))
+      (formed, (well_items (id_definition ∷ defs) (well_id, formed_defs), (well_str coll text, (well_str (codes "collection") (ascii (codes "collection") refl), tt))))
 
   -- ---- its levels
 
@@ -185,12 +156,8 @@ module _ (coll : List ℕ) (options : Tree) (defs : List Tree) (w : AreWritable 
   id_levels : levels_of id_definition ≤ 3
   id_levels = omega (arith, object_levels id_fields, int_levels (codes "2"), one_levels (codes "_id") (int_text (codes "1")), int_levels (codes "1"), str_levels (codes "_id_"))
 
-  defs_levels : (ds : List Tree) → AllByRecursion IsShallow ds → largest (map levels_of ds) ≤ 250
-  defs_levels [] h = omega arith
-  defs_levels (d ∷ ds) h = omega (arith, h.0.levels, defs_levels ds h.1)
-
   all_levels : levels_of (trees.Object fields) ≤ 256
-  all_levels = omega (arith, object_levels fields, w.shallow.levels, item_levels (id_definition ∷ defs), id_levels, defs_levels defs w.shallow_defs, str_levels coll, str_levels (codes "collection"))
+  all_levels = omega (arith, object_levels fields, shallow.options_levels, item_levels (id_definition ∷ defs), id_levels, shallow.defs_levels, str_levels coll, str_levels (codes "collection"))
 
   -- ---- the text
 
@@ -201,8 +168,14 @@ module _ (coll : List ℕ) (options : Tree) (defs : List Tree) (w : AreWritable 
   not_empty = let p = object_first fields in ne_eqb (length (text_of (trees.Object fields))) 0 (λ e. omega (arith, ap length p.1, e))
 
   meta_back : metadata_of (text_of (trees.Object fields)) ≡ Ok (options, defs)
-  meta_back = both_there (text_of (trees.Object fields)) not_empty fields (print_read (trees.Object fields) kept_all all_levels) options defs options_back indexes_back
+  meta_back = both_there (text_of (trees.Object fields)) not_empty fields (print_read (trees.Object fields) well_all all_levels) options defs options_back indexes_back
 
 pub written_is_read : WrittenIsRead
 unfolding metadata_tree
-written_is_read coll options defs w = meta_back coll options defs w
+written_is_read coll options defs text formed formed_defs shallow w = meta_back coll options defs text formed formed_defs shallow w
+
+-- the text that a call wrote
+pub text_back : {E : Type 0} (r : Result (List ℕ) E) (coll : List ℕ) (options : Tree) (defs : List Tree) → IfOk r (λ t. t ≡ text_of (metadata_tree coll options defs)) → OnOk r ((is_utf8 coll ≡ true) × IsWellFormed options × AreWellFormedItems defs)
+    → AreShallow options defs → AreNormal options defs → IfOk r (λ t. metadata_of t ≡ Ok (options, defs))
+text_back (Ok t) coll options defs e k shallow normal = ap metadata_of e ∙ written_is_read coll options defs k.0 k.1 k.2 shallow normal
+text_back (Err x) coll options defs e k shallow normal = tt

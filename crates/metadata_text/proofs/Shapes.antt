@@ -1,13 +1,20 @@
 -- What a metadata text means, by its tree, and how one is written.
-use Rattle.std.proofs.Common.{◌≡◌, ℕ, true, false, eqb, List, [], ◌∷◌, ◌++◌, length, map, Option, Some, None, Ok, Err, refl, sym, ap, ◌∙◌, append_assoc, arith}
+use Rattle.std.proofs.Common.{◌≡◌, ℕ, true, false, eqb, List, [], ◌∷◌, ◌++◌, length, map, Option, Some, None, Ok, Err, refl, sym, ap, subst, ◌∙◌, append_assoc, arith}
 use Rattle.std.proofs.lemmas.Bool.{eqb-true}
 use Rattle.extjson.specs.Trees.{wrapped}
 use Rattle.std.specs.Prelude.{codes}
-use Rattle.json_text.specs.declared.tree.Tree.{Tree, Tree-F, out-Tree, roll-Tree, roll-out-Tree, fold-roll-Tree}
-use Rattle.json_text.specs.declared.tree.Tree.TheVariants as trees
-use Rattle.json_text.specs.Reading.{tree_of_text}
+use Rattle.json_tree.specs.declared.tree.Tree.{Tree, Tree-F, out-Tree, roll-Tree, roll-out-Tree, fold-roll-Tree}
+use Rattle.json_tree.specs.declared.tree.Tree.TheVariants as trees
+use Rattle.std.specs.Str.{is_utf8}
+use Rattle.json_tree.specs.WellFormed.{IsWellFormedLevel, IsWellFormed}
+use Rattle.json_tree.proofs.WellFormed.{here_well}
+use Rattle.json_text.specs.declared.fault.JsonFault.{JsonFault}
+use Rattle.json_text.specs.declared.fault.JsonFault.TheVariants as json
+use Rattle.json_text.specs.Reading.{Fails as JsonFails, tree_of_text}
 use Rattle.json_text.specs.Print.{escaped, quoted, behind_commas, print_step, text_of}
-use Rattle.metadata_text.specs.Metadata.{options_of, indexes_of, both_or, members_meta, tree_meta, metadata_of, id_definition, metadata_tree}
+use Rattle.metadata_text.specs.declared.fault.MetaFault.{MetaFault}
+use Rattle.metadata_text.specs.Faults.{same_fault}
+use Rattle.metadata_text.specs.Metadata.{Fails, options_of, indexes_of, both_or, members_meta, tree_meta, metadata_of, id_definition, metadata_tree}
 
 pub meta_empty : (t : List ℕ) → eqb (length t) 0 ≡ true → metadata_of t ≡ Ok (trees.Object [], [])
 unfolding metadata_of
@@ -133,3 +140,12 @@ pieces r s t u v w x y o ds c er es et eu ev ew ex ey =
     let f = ew ∙ ap (λ (l : List ℕ). l ++ name_text) e in
     let g = ex ∙ ap (λ (l : List ℕ). l ++ c) f in
     ey ∙ ap (λ (l : List ℕ). l ++ end_text) g
+
+-- a text that is no JSON text
+pub json_fails : (text : List ℕ) → eqb (length text) 0 ≡ false → (f : JsonFault) (e : MetaFault) → e ≡ same_fault f → JsonFails f (tree_of_text text) → Fails e (metadata_of text)
+json_fails text some json.NoMemory e is h = subst (λ (x : MetaFault). Fails x (metadata_of text)) (sym is) tt
+json_fails text some (json.Bad at) e is h = subst (λ (x : MetaFault). Fails x (metadata_of text)) (sym is) (no_json text some at h)
+
+-- a string that is well-formed
+pub str_utf8 : (t u : List ℕ) → t ≡ u → IsWellFormed (trees.Str t) → is_utf8 u ≡ true
+str_utf8 t u same k = ap is_utf8 (sym same) ∙ subst IsWellFormedLevel (trees.outs-Str t) (here_well (trees.Str t) k)

@@ -1,2 +1,3 @@
 pub mod Metadata
 pub mod RoundTrip
+pub mod Faults

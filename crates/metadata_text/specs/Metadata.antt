@@ -6,8 +6,8 @@ use Rattle.std.specs.Cmp.Lexicographic.{slice_cmp}
 use Rattle.std.specs.Str.{bytes_eq}
 use Rattle.std.specs.BTreeMap.{insert_entry}
 use Rattle.containers.specs.Entries.{lookup}
-use Rattle.json_text.specs.declared.tree.Tree.{Tree, Tree-F, out-Tree}
-use Rattle.json_text.specs.declared.tree.Tree.TheVariants as trees
+use Rattle.json_tree.specs.declared.tree.Tree.{Tree, Tree-F, out-Tree}
+use Rattle.json_tree.specs.declared.tree.Tree.TheVariants as trees
 use Rattle.json_text.specs.Reading.{tree_of_text}
 use Rattle.extjson.specs.Trees.{wrapped}
 use Rattle.extjson.specs.Plain.{wrapped_numbers}

@@ -5,8 +5,9 @@ use Rattle.std.specs.declared.cmp.Ordering.TheVariants.{Greater}
 use Rattle.std.specs.Cmp.Lexicographic.{slice_cmp}
 use Rattle.std.specs.List.{AllByRecursion}
 use Rattle.std.specs.Str.{is_utf8}
-use Rattle.json_text.specs.declared.tree.Tree.{Tree}
-use Rattle.json_text.specs.Printing.{AllKept, levels_of}
+use Rattle.json_tree.specs.declared.tree.Tree.{Tree}
+use Rattle.json_tree.specs.Levels.{levels_of, items_levels}
+use Rattle.json_tree.specs.WellFormed.{IsWellFormed, AreWellFormedItems}
 use Rattle.json_text.specs.Print.{text_of}
 use Rattle.extjson.specs.Plain.{wrapped_numbers}
 use Rattle.metadata_text.specs.Metadata.{Named, is_object, named, metadata_tree, metadata_of}
@@ -24,22 +25,19 @@ AreRising (e ∷ es) = AllBehind e.0 es × AreRising es
 abbrev pub AreOthers : Named → Type 0
 AreOthers es = AllByRecursion (λ e. e.0 ≡ codes "_id_" → ⊥) es
 
--- a tree of at most 250 levels, as `parse` gives it
-pub record IsShallow (t : Tree) : Type 0 where
-  pub kept : AllKept t
-  pub levels : levels_of t ≤ 250
-
--- options that are an object without plain whole numbers, and definitions with names that rise and aren't `_id_`
-pub record AreWritable (coll : List ℕ) (options : Tree) (defs : List Tree) : Type 0 where
-  pub text : is_utf8 coll ≡ true
+-- options that are an object without plain whole numbers, and definitions with names that rise and aren't `_id_`, as `metadata_of` gives them
+pub record AreNormal (options : Tree) (defs : List Tree) : Type 0 where
   pub object : is_object options ≡ true
   pub wrapped : wrapped_numbers options ≡ options
-  pub shallow : IsShallow options
-  pub shallow_defs : AllByRecursion IsShallow defs
   pub names : Named
   pub named_so : named defs ≡ Some names
   pub rising : AreRising names
   pub others : AreOthers names
 
+-- so few levels that the text has at most 256
+pub record AreShallow (options : Tree) (defs : List Tree) : Type 0 where
+  pub options_levels : levels_of options ≤ 255
+  pub defs_levels : items_levels defs ≤ 254
+
 abbrev pub WrittenIsRead : Type 0
-WrittenIsRead = (coll : List ℕ) (options : Tree) (defs : List Tree) → AreWritable coll options defs → metadata_of (text_of (metadata_tree coll options defs)) ≡ Ok (options, defs)
+WrittenIsRead = (coll : List ℕ) (options : Tree) (defs : List Tree) → is_utf8 coll ≡ true → IsWellFormed options → AreWellFormedItems defs → AreShallow options defs → AreNormal options defs → metadata_of (text_of (metadata_tree coll options defs)) ≡ Ok (options, defs)

@@ -2,6 +2,7 @@
 ghost use Rattle.std.specs.Prelude.{◌≡◌};
 ghost use Rattle.metadata_text.specs.declared.fault.MetaFault.TheVariants.{NoMemory};
 
+use json_text::JsonFault;
 use std::alloc::{AllocError, AllocFailed};
 use thiserror::Error;
 
@@ -28,5 +29,19 @@ impl<T: Drop> From<AllocFailed<T>> for MetaFault {
 
     fn from(_e: AllocFailed<T>) -> MetaFault {
         MetaFault::NoMemory
+    }
+}
+
+// The same fault in the text of metadata.
+impl From<JsonFault> for MetaFault {
+    ghost use Rattle.metadata_text.specs.Faults.{same_fault};
+
+    ghost from_gives = { λ f e. e ≡ same_fault f };
+
+    fn from(fault: JsonFault) -> MetaFault {
+        match fault {
+            JsonFault::NoMemory => MetaFault::NoMemory,
+            JsonFault::Bad { at } => MetaFault::Bad { at },
+        }
     }
 }

@@ -1,12 +1,14 @@
 //! The options and definitions of a metadata text.
 ghost use Rattle.std.specs.Prelude.{◌≡◌, ◌==◌, [], IfOk, OnOk, length, Some, None, string_bytes};
 ghost use Rattle.std.specs.Option.{option_copied};
-ghost use Rattle.json_text.specs.declared.tree.Tree.{Tree as Datum};
+ghost use Rattle.json_tree.specs.declared.tree.Tree.{Tree as Datum};
 ghost use Rattle.metadata_text.specs.Metadata.{Gives, is_object, definition_name, options_of, definitions_of, indexes_of, metadata_of, by_bytes, put_in_order};
 
 use crate::fault::MetaFault;
+use containers::List as JList;
 use extjson::wrap_numbers;
-use json_text::{Fields, JList, JsonFault, Tree, parse};
+use json_text::parse;
+use json_tree::{Fields, Tree};
 use std::alloc::{AllocError, Global};
 use std::collections::BTreeMap;
 
@@ -114,11 +116,7 @@ pub fn metadata_of(alloc: Global, text: &str) -> Result<(Tree, JList<Tree>), Met
     if text.is_empty() {
         return Ok((Tree::Object(Fields::new(alloc)), JList::new(alloc)));
     }
-    let tree = match parse(alloc, text) {
-        Ok(tree) => tree,
-        Err(JsonFault::Bad { at }) => return Err(MetaFault::Bad { at }),
-        Err(JsonFault::NoMemory) => return Err(MetaFault::NoMemory),
-    };
+    let tree = parse(alloc, text)?;
     let Tree::Object(fields) = tree else {
         return Err(MetaFault::Bad { at: text.len() });
     };

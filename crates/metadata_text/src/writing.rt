@@ -1,22 +1,28 @@
 //! The metadata text of a collection.
-ghost use Rattle.std.specs.Prelude.{◌≡◌, ◌++◌, IfOk, OnOk, map, string_bytes};
+ghost use Rattle.std.specs.Prelude.{◌≡◌, ◌++◌, true, IfOk, OnOk, map, string_bytes};
+ghost use Rattle.std.specs.Str.{is_utf8};
 ghost use Rattle.json_text.specs.Print.{text_of, behind_commas};
-ghost use Rattle.metadata_text.specs.Metadata.{metadata_tree};
+ghost use Rattle.json_tree.specs.WellFormed.{IsWellFormed, AreWellFormedItems};
+ghost use Rattle.metadata_text.specs.Metadata.{metadata_tree, metadata_of};
+ghost use Rattle.metadata_text.specs.RoundTrip.{AreNormal, AreShallow};
 
 use bson_value::NsName;
-use containers::Text;
-use json_text::{JList, Tree, print};
+use containers::{List as JList, Text};
+use json_text::print;
+use json_tree::Tree;
 use std::alloc::{AllocError, Global};
 
 fn put(alloc: Global, out: &mut String, tree: &Tree) -> Result<(), AllocError>
-    ensures { OnOk result (string_bytes out.new ≡ string_bytes out.old ++ text_of tree.now) }
+    ensures text { OnOk result (string_bytes out.new ≡ string_bytes out.old ++ text_of tree.now) }
+    ensures well_formed { OnOk result (IsWellFormed tree.now) }
 {
     let text = print(alloc, tree)?;
     out.push_str(text.as_str())
 }
 
 fn put_definitions(alloc: Global, out: &mut String, defs: &[Tree]) -> Result<(), AllocError>
-    ensures { OnOk result (string_bytes out.new ≡ string_bytes out.old ++ behind_commas (map text_of defs.now)) }
+    ensures text { OnOk result (string_bytes out.new ≡ string_bytes out.old ++ behind_commas (map text_of defs.now)) }
+    ensures well_formed { OnOk result (AreWellFormedItems defs.now) }
 {
     for def in defs {
         out.push_str(",")?;
@@ -25,16 +31,14 @@ fn put_definitions(alloc: Global, out: &mut String, defs: &[Tree]) -> Result<(),
     Ok(())
 }
 
-/// The metadata text of a collection: its options, the definition of the index on `_id`, these
-/// definitions behind it, its name, and that it is a collection. `metadata_of` reads it back where the
-/// options have no plain whole number, and the definitions rise by their names and aren't named `_id_`.
-pub fn metadata_text(
+fn written(
     alloc: Global,
     ns: &NsName,
     options: &Tree,
     defs: &JList<Tree>,
 ) -> Result<Text, AllocError>
-    ensures { IfOk result (λ text. text ≡ text_of (metadata_tree ns.now.coll options.now defs.now)) }
+    ensures text { IfOk result (λ text. text ≡ text_of (metadata_tree ns.now.coll options.now defs.now)) }
+    ensures well_formed { OnOk result ((is_utf8 ns.now.coll ≡ true) × IsWellFormed options.now × AreWellFormedItems defs.now) }
 {
     let mut out = String::new(alloc);
     out.push_str("{\"options\":")?;
@@ -48,4 +52,19 @@ pub fn metadata_text(
     put(alloc, &mut out, &name)?;
     out.push_str(",\"type\":\"collection\"}")?;
     Ok(Text::from_string(out))
+}
+
+/// The metadata text of a collection: its options, the definition of the index on `_id`, these
+/// definitions behind it, its name, and that it is a collection. `metadata_of` reads it back where these
+/// are normal, as it gives them, and have few levels.
+pub fn metadata_text(
+    alloc: Global,
+    ns: &NsName,
+    options: &Tree,
+    defs: &JList<Tree>,
+) -> Result<Text, AllocError>
+    ensures text { IfOk result (λ text. text ≡ text_of (metadata_tree ns.now.coll options.now defs.now)) }
+    ensures read { AreShallow options.now defs.now → AreNormal options.now defs.now → IfOk result (λ text. metadata_of text ≡ Ok (options.now, defs.now)) }
+{
+    written(alloc, ns, options, defs)
 }

@@ -9,7 +9,7 @@ ghost use Rattle.restore_base.specs.Gathered.{documents_in, contents_in, named, 
 
 use crate::collections::Kept;
 use crate::id::id_key;
-use json_text::{Fields, Tree};
+use json_tree::{Fields, Tree};
 use metadata_text::{MetaFault, metadata_of};
 use std::alloc::{AllocError, Global};
 use std::collections::BTreeMap;

@@ -8,7 +8,7 @@ use Rattle.bson_value.specs.declared.namespace.NsName.{NsName}
 use Rattle.bson_value.specs.declared.value.Value.{Value, Object}
 use Rattle.bson_value.specs.Alike.{by_name, ordered_fields}
 use Rattle.bson_value.specs.Spelling.{document_text}
-use Rattle.json_text.specs.declared.tree.Tree.{Tree}
+use Rattle.json_tree.specs.declared.tree.Tree.{Tree}
 use Rattle.json_text.specs.Print.{quoted, text_of}
 use Rattle.extjson.specs.Trees.{tree_of}
 use Rattle.state_listing.specs.declared.lines.ListForm.{ListForm}

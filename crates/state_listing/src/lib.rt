@@ -4,6 +4,5 @@
 mod lines;
 mod ordering;
 
-pub use json_text::Tree;
 pub use lines::{ListForm, quoted_name, write_document, write_head};
 pub use ordering::ordered_document;

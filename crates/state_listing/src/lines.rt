@@ -8,8 +8,10 @@ ghost use Rattle.state_listing.specs.Listing.{name_text, head_text, in_order, sh
 use crate::ordering::ordered_document;
 use bson_encode::encode;
 use bson_value::{Doc, Value};
+use containers::Text as JText;
 use extjson::tree_of;
-use json_text::{JText, Tree, print};
+use json_text::print;
+use json_tree::Tree;
 use std::alloc::{AllocError, Global};
 use tool_io::{Fault, Sink};
 

@@ -1,11 +1,11 @@
 use Rattle.std.proofs.Common.{◌≡◌, ◌+◌, ◌*◌, max, take}
 use denote.Param.Weighed.{most}
-use Rattle.json_text.specs.declared.tree.Tree.{size-Tree}
+use Rattle.json_tree.specs.declared.tree.Tree.{size-Tree}
 use Rattle.extjson.specs.Plain.{wrapped_items, wrapped_fields}
 use Rattle.extjson.proofs.plain.+wrap_numbers.Given as goal
 
-abbrev pub decreases-wrap_numbers : goal.decreases-wrap_numbers
-decreases-wrap_numbers l = 3 * size-Tree l.tree.now
+abbrev pub decreases-wrapped : goal.decreases-wrapped
+decreases-wrapped l = 3 * size-Tree l.tree.now
 
 abbrev pub decreases-member : goal.decreases-member
 decreases-member l = 3 * size-Tree l.entry.now.1 + 1

@@ -29,13 +29,13 @@ fields-returns t c = rw c.of_distinct.ensures (fields_end c.args.entries.now c.l
 
 -- ---- items
 
-pub items-returns-in_err-value_of : goal.items-returns-in_err-value_of
-items-returns-in_err-value_of t c =
+pub items-returns-in_err-value : goal.items-returns-in_err-value
+items-returns-in_err-value t c =
     let p = err_from_is_err_and c.from_residual.result c.from_residual.ensures.1 in
-    rw (p.1, p.2) (items_fail c.args.trees.now c.loop-tree.tree-index c.tree-item.result c.loop-tree-test.true c.tree-item.is c.loop-tree.values _ _ c.in_err-value_of.ensures c.loop-tree.invariant)
+    rw (p.1, p.2) (items_fail c.args.trees.now c.loop-tree.tree-index c.tree-item.result c.loop-tree-test.true c.tree-item.is c.loop-tree.values _ _ c.in_err-value.ensures c.loop-tree.invariant)
 
 pub items-loop-tree-preserved : goal.items-loop-tree-preserved
-items-loop-tree-preserved t c = rw c.in_ok-push.ensures.ok (items_more c.args.trees.now c.loop-tree.tree-index c.tree-item.result c.loop-tree-test.true c.tree-item.is c.loop-tree.values _ _ c.in_ok-value_of.ensures c.loop-tree.invariant)
+items-loop-tree-preserved t c = rw c.in_ok-push.ensures.ok (items_more c.args.trees.now c.loop-tree.tree-index c.tree-item.result c.loop-tree-test.true c.tree-item.is c.loop-tree.values _ _ c.in_ok-value.ensures c.loop-tree.invariant)
 
 pub items-returns : goal.items-returns
 items-returns t c = items_end c.args.trees.now c.loop-tree.tree-index c.loop-tree.values _ c.loop-tree-test.false c.loop-tree.invariant
@@ -88,25 +88,25 @@ scoped-returns t c = rw (scoped_is c.args.entries.now, c.in_ok-code.ensures, c.i
 
 -- ---- trees
 
-pub value_of-returns-in_err-items-in-Items : goal.value_of-returns-in_err-items-in-Items
-value_of-returns-in_err-items-in-Items t c =
+pub value-returns-in_err-items-in-Items : goal.value-returns-in_err-items-in-Items
+value-returns-in_err-items-in-Items t c =
     let p = err_from_is_err_and c.from_residual-in_err-items-in-Items.result c.from_residual-in_err-items-in-Items.ensures.1 in
     rw (p.1, p.2, c.in-Items.is, value_items) (failed _ _ _ (rw c.as_slice.ensures at c.in_err-items-in-Items.ensures))
 
-pub value_of-returns-in-Null : goal.value_of-returns-in-Null
-value_of-returns-in-Null t c = ap value_of c.in-Null.is ∙ value_null
+pub value-returns-in-Null : goal.value-returns-in-Null
+value-returns-in-Null t c = ap value_of c.in-Null.is ∙ value_null
 
-pub value_of-returns-in-Bool : goal.value_of-returns-in-Bool
-value_of-returns-in-Bool t c = ap value_of c.in-Bool.is ∙ value_bool c.in-Bool.b
+pub value-returns-in-Bool : goal.value-returns-in-Bool
+value-returns-in-Bool t c = ap value_of c.in-Bool.is ∙ value_bool c.in-Bool.b
 
-pub value_of-returns-in-Number : goal.value_of-returns-in-Number
-value_of-returns-in-Number t c = rw (c.in-Number.is, value_number c.in-Number.text) (rw c.as_str.ensures at c.plain.ensures)
+pub value-returns-in-Number : goal.value-returns-in-Number
+value-returns-in-Number t c = rw (c.in-Number.is, value_number c.in-Number.text) (rw c.as_str.ensures.text at c.plain.ensures)
 
-pub value_of-returns-in_ok-copy-in-Str : goal.value_of-returns-in_ok-copy-in-Str
-value_of-returns-in_ok-copy-in-Str t c = rw c.in_ok-copy-in-Str.ensures (ap value_of c.in-Str.is ∙ value_str c.in-Str.text)
+pub value-returns-in_ok-copy-in-Str : goal.value-returns-in_ok-copy-in-Str
+value-returns-in_ok-copy-in-Str t c = rw c.in_ok-copy-in-Str.ensures (ap value_of c.in-Str.is ∙ value_str c.in-Str.text)
 
-pub value_of-returns-in_ok-items-in-Items : goal.value_of-returns-in_ok-items-in-Items
-value_of-returns-in_ok-items-in-Items t c = rw (c.in-Items.is, value_items c.in-Items.trees, rw c.as_slice.ensures at c.in_ok-items-in-Items.ensures) refl
+pub value-returns-in_ok-items-in-Items : goal.value-returns-in_ok-items-in-Items
+value-returns-in_ok-items-in-Items t c = rw (c.in-Items.is, value_items c.in-Items.trees, rw c.as_slice.ensures at c.in_ok-items-in-Items.ensures) refl
 
-pub value_of-returns-in-Object : goal.value_of-returns-in-Object
-value_of-returns-in-Object t c = rw (c.in-Object.is, value_object c.in-Object.fields) (rw c.entries.ensures.entries at c.object.ensures)
+pub value-returns-in-Object : goal.value-returns-in-Object
+value-returns-in-Object t c = rw (c.in-Object.is, value_object c.in-Object.fields) (rw c.entries.ensures.entries at c.object.ensures)

@@ -2,13 +2,13 @@ use Rattle.std.proofs.Common.{◌≡◌, ◌+◌, ◌*◌, max, take}
 use Rattle.std.specs.Prelude.{map}
 use denote.Param.Weighed.{most}
 use Rattle.containers.specs.Entries.{names_of}
-use Rattle.json_text.specs.declared.tree.Tree.{size-Tree}
+use Rattle.json_tree.specs.declared.tree.Tree.{size-Tree}
 use Rattle.extjson.specs.Values.{value_of, parts_of, items_value, fields_value}
 use Rattle.extjson.proofs.Loops.{behind, items_left, fields_left}
 use Rattle.extjson.proofs.reading.+value_of.Given as goal
 
-abbrev pub decreases-value_of : goal.decreases-value_of
-decreases-value_of l = 5 * size-Tree l.tree.now
+abbrev pub decreases-value : goal.decreases-value
+decreases-value l = 5 * size-Tree l.tree.now
 
 abbrev pub decreases-document : goal.decreases-document
 decreases-document l = 5 * size-Tree l.tree.now + 1

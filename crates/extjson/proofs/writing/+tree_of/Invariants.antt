@@ -4,8 +4,8 @@ use Rattle.bson_value.specs.declared.value.Value.{size-Value}
 use Rattle.extjson.specs.Trees.{items_of, fields_of}
 use Rattle.extjson.proofs.writing.+tree_of.Given as goal
 
-abbrev pub decreases-tree_of : goal.decreases-tree_of
-decreases-tree_of l = 3 * size-Value l.value.now
+abbrev pub decreases-tree : goal.decreases-tree
+decreases-tree l = 3 * size-Value l.value.now
 
 abbrev pub decreases-entry : goal.decreases-entry
 decreases-entry l = 3 * size-Value l.field.now.1 + 1

@@ -1,6 +1,6 @@
 use Rattle.std.proofs.Common.{◌≡◌, subst, refl}
 use Rattle.std.specs.Prelude.{IfOk}
-use Rattle.json_text.specs.declared.tree.Tree.{Tree}
+use Rattle.json_tree.specs.declared.tree.Tree.{Tree}
 use Rattle.extjson.specs.Trees.{scoped_tree}
 use Rattle.extjson.proofs.Wraps.{pair_is}
 use Rattle.extjson.proofs.writing.scoped.Goals as goal

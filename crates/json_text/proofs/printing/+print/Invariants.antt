@@ -1,7 +1,8 @@
 use Rattle.std.proofs.Common.{◌≡◌, ◌+◌, ◌*◌, ◌++◌, max, take}
 use denote.Param.Weighed.{most}
 use Rattle.std.specs.Prelude.{string_bytes}
-use Rattle.json_text.specs.declared.tree.Tree.{size-Tree}
+use Rattle.json_tree.specs.WellFormed.{AreWellFormedItems, AreWellFormedEntries}
+use Rattle.json_tree.specs.declared.tree.Tree.{size-Tree}
 use Rattle.json_text.specs.Print.{items_text, entries_text}
 use Rattle.json_text.proofs.printing.+print.Given as goal
 
@@ -24,7 +25,13 @@ abbrev pub decreases-put_array : goal.decreases-put_array
 decreases-put_array l = 5 * most (λ v. size-Tree v) l.items.now + 3
 
 abbrev pub invariant-put_items-loop-i : goal.invariant-put_items-loop-i
-invariant-put_items-loop-i l = string_bytes l.out ≡ string_bytes l.fn.out ++ items_text (take l.i l.items)
+invariant-put_items-loop-i l = record {
+  text : string_bytes l.out ≡ string_bytes l.fn.out ++ items_text (take l.i l.items);
+  well_formed : AreWellFormedItems (take l.i l.items);
+}
 
 abbrev pub invariant-put_entries-loop-i : goal.invariant-put_entries-loop-i
-invariant-put_entries-loop-i l = string_bytes l.out ≡ string_bytes l.fn.out ++ entries_text (take l.i l.entries)
+invariant-put_entries-loop-i l = record {
+  text : string_bytes l.out ≡ string_bytes l.fn.out ++ entries_text (take l.i l.entries);
+  well_formed : AreWellFormedEntries (take l.i l.entries);
+}

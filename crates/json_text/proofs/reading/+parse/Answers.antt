@@ -1,6 +1,5 @@
 use Rattle.std.proofs.Common.{sym, arith}
 use Rattle.std.proofs.lemmas.Result.{err_from_is_err_and}
-use Rattle.containers.proofs.Entries.{distinct_push}
 use Rattle.json_text.specs.Reading.{item_at, member_at, value_at}
 use Rattle.json_text.proofs.Loop.{goes_on, stops, ends, starts, shut, array_none, array_some, object_none, object_some}
 use Rattle.json_text.proofs.reading.+parse.Goals as goal
@@ -39,25 +38,22 @@ items-items-preserved t c = record {
 }
 
 pub members-members-init : goal.members-members-init
-members-members-init t c = record { left = rw c.new-entries.ensures.items (starts 125 (member_at (value_at c.args.levels) c.args.end) c.args.end c.args.bytes.now (sym c.in_default.ensures.value)); fits = omega arith; distinct = rw c.new-entries.ensures.items tt }
+members-members-init t c = record { left = rw c.new-before.ensures (starts 125 (member_at (value_at c.args.levels) c.args.end) c.args.end c.args.bytes.now (sym c.in_default.ensures.value)); fits = omega arith }
 
 pub members-returns-in-Some-clause-gives : goal.members-returns-in-Some-clause-gives
-members-returns-in-Some-clause-gives t c = rw c.new.ensures (shut 125 (member_at (value_at c.args.levels) c.args.end) c.args.end c.args.bytes.now c.in-Some.after.now (sym c.in-Some.ensures.value))
+members-returns-in-Some-clause-gives t c = rw (c.into_members.ensures, c.new-before.ensures) (shut 125 (member_at (value_at c.args.levels) c.args.end) c.args.end c.args.bytes.now c.in-Some.after.now (sym c.in-Some.ensures.value))
 
-pub members-returns-in_err-entry-clause-gives : goal.members-returns-in_err-entry-clause-gives
-members-returns-in_err-entry-clause-gives t c =
+pub members-returns-in_err-name-clause-gives : goal.members-returns-in_err-name-clause-gives
+members-returns-in_err-name-clause-gives t c =
     let p = err_from_is_err_and c.from_residual.result c.from_residual.ensures.1 in
-    rw (p.1, p.2) (stops (member_at (value_at c.args.levels) c.args.end) c.args.end c.members.entries.items c.members.rest.now _ _ (rw c.as_slice.ensures.value at c.in_err-entry.ensures.gives) c.members.invariant.left)
-
-pub members-of_distinct-requires : goal.members-of_distinct-requires
-members-of_distinct-requires t c = rw c.in_ok-push.ensures.items (distinct_push c.members.entries.items c.in_ok-entry.entry.0 c.in_ok-entry.entry.1 (rw c.as_slice.ensures.value at c.in_ok-entry.ensures.absent) c.members.invariant.distinct)
+    rw (p.1, p.2) (stops (member_at (value_at c.args.levels) c.args.end) c.args.end c.members.before c.members.rest.now _ _ c.in_err-name.ensures.gives c.members.invariant.left)
 
 pub members-returns-then-not-more-clause-gives : goal.members-returns-then-not-more-clause-gives
-members-returns-then-not-more-clause-gives t c = rw (c.of_distinct.ensures, c.in_ok-push.ensures.items) (ends (member_at (value_at c.args.levels) c.args.end) c.args.end c.members.entries.items c.members.rest.now _ _ _ _ (rw c.as_slice.ensures.value at c.in_ok-entry.ensures.gives) c.if-not-more.true c.members.invariant.left)
+members-returns-then-not-more-clause-gives t c =
+    rw (c.into_members-then-not-more.ensures, c.in_ok-before.ensures) (ends (member_at (value_at c.args.levels) c.args.end) c.args.end c.members.before c.members.rest.now _ _ _ _ c.in_ok-name.ensures.gives c.if-not-more.true c.members.invariant.left)
 
 pub members-members-preserved : goal.members-members-preserved
 members-members-preserved t c = record {
-  left = rw c.in_ok-push.ensures.items (goes_on (member_at (value_at c.args.levels) c.args.end) c.args.end c.members.entries.items c.members.rest.now _ _ _ _ (rw c.as_slice.ensures.value at c.in_ok-entry.ensures.gives) c.if-not-more.false c.in_ok-entry.ensures.fits c.members.invariant.left);
-  fits = omega (arith, c.members.invariant.fits, c.in_ok-entry.ensures.fits);
-  distinct = rw c.in_ok-push.ensures.items (distinct_push c.members.entries.items c.in_ok-entry.entry.0 c.in_ok-entry.entry.1 (rw c.as_slice.ensures.value at c.in_ok-entry.ensures.absent) c.members.invariant.distinct);
+  left = rw c.in_ok-before.ensures (goes_on (member_at (value_at c.args.levels) c.args.end) c.args.end c.members.before c.members.rest.now _ _ _ _ c.in_ok-name.ensures.gives c.if-not-more.false c.in_ok-name.ensures.fits c.members.invariant.left);
+  fits = omega (arith, c.members.invariant.fits, c.in_ok-name.ensures.fits);
 }

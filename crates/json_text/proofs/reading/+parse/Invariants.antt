@@ -1,5 +1,4 @@
 use Rattle.std.proofs.Common.{◌+◌, ◌*◌, ◌≤◌, length}
-use Rattle.containers.specs.Entries.{AreDistinct, names_of}
 use Rattle.json_text.specs.Reading.{list_at, item_at, member_at, value_at}
 use Rattle.json_text.proofs.Loop.{Left}
 use Rattle.json_text.proofs.reading.+parse.Given as goal
@@ -36,9 +35,8 @@ decreases-items-items l = length l.rest
 
 abbrev pub invariant-members-members : goal.invariant-members-members
 invariant-members-members l = record {
-  left : Left (member_at (value_at l.levels) l.end) l.end l.entries.items l.rest (list_at 125 (member_at (value_at l.levels) l.end) l.end l.bytes);
+  left : Left (member_at (value_at l.levels) l.end) l.end l.before l.rest (list_at 125 (member_at (value_at l.levels) l.end) l.end l.bytes);
   fits : length l.rest ≤ length l.bytes;
-  distinct : AreDistinct (names_of l.entries.items);
 }
 
 abbrev pub decreases-members-members : goal.decreases-members-members

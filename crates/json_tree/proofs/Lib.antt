@@ -1,0 +1,4 @@
+pub mod Depth
+pub mod Names
+pub mod Levels
+pub mod WellFormed

@@ -1,0 +1,5 @@
+pub mod formers
+pub mod Numbers
+pub mod Levels
+pub mod WellFormed
+pub mod Covers
