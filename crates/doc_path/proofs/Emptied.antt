@@ -13,8 +13,8 @@ use Rattle.doc_path.specs.declared.parts.Change.TheVariants.{Delete, Resize as L
 use Rattle.doc_path.specs.Touch.{Part, name, index, key_of, Touch, unset_by, walk_by, resize_here, from_key, from_index}
 use Rattle.doc_path.specs.Played.{touch_at}
 use Rattle.doc_path.specs.Ways.{leads, under, value_from, value_in, changed_along, changed_at, emptied, ChangesOnly, IsResizedAt, ChangesOnlyBehind}
-use Rattle.doc_path.proofs.Frame.{del_keeps, sized_keeps}
-use Rattle.doc_path.proofs.PlayedLaws.{split-append, walk-append}
+use Rattle.doc_path.proofs.Kept.{del_keeps, sized_keeps}
+use Rattle.doc_path.proofs.Last.{split-append, walk-append}
 use Rattle.doc_path.proofs.Steps.{resized_array}
 use Rattle.doc_path.proofs.Down.{in_none}
 use Rattle.doc_path.proofs.Changed.{leads_or_not, value_in-append, along_there, along_missing, along_keeps, changed_at-append}
@@ -124,14 +124,14 @@ emptied-last [] p o = refl
 emptied-last (w ∷ []) p o = refl
 emptied-last (w ∷ (x ∷ ws)) p o = emptied-last (x ∷ ws) p o
 
-one_part : (p : Part) (v : Value) → value_in (p ∷ []) v ≡ under p v
+pub one_part : (p : Part) (v : Value) → value_in (p ∷ []) v ≡ under p v
 one_part p v = by (under p v)
   where
     by : (o : Option Value) → value_from o [] ≡ o
     by None = refl
     by (Some c) = refl
 
-value_in-append_none : (ps qs : List Part) (v : Value) → value_in ps v ≡ None → value_in (ps ++ qs) v ≡ None
+pub value_in-append_none : (ps qs : List Part) (v : Value) → value_in ps v ≡ None → value_in (ps ++ qs) v ≡ None
 value_in-append_none [] qs v e = cc
 value_in-append_none (p ∷ ps) qs v e =
     elim (leads_or_not p v) [
@@ -139,7 +139,7 @@ value_in-append_none (p ∷ ps) qs v e =
       | inr d ↦ ap (λ (o : Option Value). value_from o (ps ++ qs)) d.1 ∙ value_in-append_none ps qs d.0 (sym (ap (λ (o : Option Value). value_from o ps) d.1) ∙ e)
     ]
 
-there_or_not : (ps : List Part) (v : Value) → (value_in ps v ≡ None) ⊎ ((c : Value) × (value_in ps v ≡ Some c))
+pub there_or_not : (ps : List Part) (v : Value) → (value_in ps v ≡ None) ⊎ ((c : Value) × (value_in ps v ≡ Some c))
 there_or_not ps v = by (value_in ps v) refl
   where
     by : (o : Option Value) → value_in ps v ≡ o → (value_in ps v ≡ None) ⊎ ((c : Value) × (value_in ps v ≡ Some c))
