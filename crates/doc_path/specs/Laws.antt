@@ -16,6 +16,9 @@ Hereditary d = (q r : Place) → d (q ++ r) ≡ false → d q ≡ false
 abbrev pub CoversAllBelow : Type 0
 CoversAllBelow = (t : Touch) (q r : Place) → covers t q ≡ true → covers t (q ++ r) ≡ true
 
+abbrev pub CoversHereditarily : Type 0
+CoversHereditarily = (t : Touch) → Hereditary (covers t)
+
 abbrev pub CoversNoRoot : Type 0
 CoversNoRoot = (t : Touch) → covers t [] ≡ false
 

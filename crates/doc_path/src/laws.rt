@@ -1,10 +1,11 @@
 //! Laws of what touches cover, and of what replay leaves at once. Each function does nothing, and its
 //! caller learns the law.
-ghost use Rattle.doc_path.specs.Laws.{CoversAllBelow, CoversNoRoot, LeftAtOnce, LeftStays, OthersArePlayed, ChangeIsPlayed, FarChangeStays};
+ghost use Rattle.doc_path.specs.Laws.{CoversAllBelow, CoversHereditarily, CoversNoRoot, LeftAtOnce, LeftStays, OthersArePlayed, ChangeIsPlayed, FarChangeStays};
 
 /// What covers a place covers all that is below it. No touch covers a whole document.
 pub fn covers_all_below()
     ensures below { CoversAllBelow }
+    ensures hereditary { CoversHereditarily }
     ensures root { CoversNoRoot }
 {}
 

@@ -9,8 +9,8 @@ use Rattle.doc_path.specs.Played.{is_left, played, played_all, NoneLeft}
 use Rattle.doc_path.specs.Laws.{Hereditary}
 use Rattle.touch_laws.specs.Agree.{SameBut, SameButEither, any_covers, Agree, AllFit, Done, InTouches, Records}
 
-abbrev pub CoversHereditarily : Type 0
-CoversHereditarily = (ts : List Touch) → Hereditary (any_covers ts)
+abbrev pub CoverHereditarily : Type 0
+CoverHereditarily = (ts : List Touch) → Hereditary (any_covers ts)
 
 abbrev pub AgreesWithItself : Type 0
 AgreesWithItself = (x : Value) → Agree x x []

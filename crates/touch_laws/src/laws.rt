@@ -1,9 +1,9 @@
 //! Laws of touches. Each function does nothing, and its caller learns the law.
-ghost use Rattle.touch_laws.specs.Laws.{CoversHereditarily, AgreesWithItself, AgreedIsAlike, MoreTouchesAgree, DifferencesAreCovered, ChangesWhatItCovers, PlayingKeepsSame, PlayingKeepsAgreement, PlayingAllKeepsAgreement, DoneStays, DoneFits, RecordLaw, RecordIsAlike, RecordHeals, AnyOrderRecords};
+ghost use Rattle.touch_laws.specs.Laws.{CoverHereditarily, AgreesWithItself, AgreedIsAlike, MoreTouchesAgree, DifferencesAreCovered, ChangesWhatItCovers, PlayingKeepsSame, PlayingKeepsAgreement, PlayingAllKeepsAgreement, DoneStays, DoneFits, RecordLaw, RecordIsAlike, RecordHeals, AnyOrderRecords};
 
 /// What a list of touches covers, it covers with all that is below.
 pub fn touches_cover_all_below()
-    ensures { CoversHereditarily }
+    ensures { CoverHereditarily }
 {}
 
 /// A document agrees with itself for no touches.
