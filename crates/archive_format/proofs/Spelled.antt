@@ -16,9 +16,9 @@ use Rattle.bson_value.specs.Spelling.{Typed, spelling, spelling_step, spelled, e
 use Rattle.bson_value.proofs.Sizes.{document_length}
 use Rattle.bson_check.specs.Spells.{IsName}
 use Rattle.bson_check.proofs.Whole.{spelled_is_read}
-use Rattle.bson_core.specs.Kept.{IsKept}
+use Rattle.bson_value.specs.WellFormed.{IsWellFormedDocument}
 use Rattle.bson_core.proofs.Grammar.{spelling_spells}
-use Rattle.bson_core.proofs.Held.{kept_str, kept_int, kept_long, kept_bool}
+use Rattle.bson_value.proofs.WellFormed.{formed_str, formed_int, formed_long, formed_bool}
 use Rattle.archive_format.specs.Shapes.{Header, Metadata, ns_head_of, meta_of, header_of, is_namespace, db_name, collection_name, eof_name, crc_name, metadata_name, concurrent_name, version_name, server_name, tool_name, format_version}
 use Rattle.archive_format.specs.Archive.{fields_of, head_in, metadata_in, header_in}
 use Rattle.archive_format.specs.Written.{head_fields, meta_fields, header_fields, head_text, meta_text, header_text, size_name, type_name, HeadFits, MetaFits, HeaderFits, AreTexts}
@@ -93,7 +93,7 @@ a_name n u z = record { utf8 = a_text n u; no_zero = no_zero_of n z }
 
 -- ---- documents
 
-is_read : (fs : List (List ℕ × Value)) → IsKept fs → length (elements_of fs) + 5 ≤ 16793600 → levels_of fs ≤ 200 → fields_of (document_text fs) ≡ Ok fs
+is_read : (fs : List (List ℕ × Value)) → IsWellFormedDocument fs → length (elements_of fs) + 5 ≤ 16793600 → levels_of fs ≤ 200 → fields_of (document_text fs) ≡ Ok fs
 unfolding fields_of
 is_read fs k l d = let n = document_length fs in spelled_is_read 16793600 200 (document_text fs) fs (record { spells = spelling_spells fs k (omega (arith, l, n)); short = omega (arith, l, n); shallow = d })
 
@@ -110,13 +110,13 @@ module _ (ns : NsName) (eof : Truth) (z : ℤ) where
       omega (arith, document_length fs, elements_size db_name (Str ns.db) ((collection_name, Str ns.coll) ∷ (eof_name, Bool eof) ∷ (crc_name, Long z) ∷ []), elements_size collection_name (Str ns.coll) ((eof_name, Bool eof) ∷ (crc_name, Long z) ∷ []), elements_size eof_name (Bool eof) ((crc_name, Long z) ∷ []), elements_size crc_name (Long z) [], str_size ns.db, str_size ns.coll, bool_size eof, long_size z)
 
   module _ (db_text : is_utf8 ns.db ≡ true) (coll_text : is_utf8 ns.coll ≡ true) (fit : FitsSigned w64 z) where
-    head_kept : IsKept (head_fields ns eof z)
+    head_kept : IsWellFormedDocument (head_fields ns eof z)
     head_kept = (
       (
         ((differ _ _ refl, (differ _ _ refl, (differ _ _ refl, tt))), ((differ _ _ refl, (differ _ _ refl, tt)), ((differ _ _ refl, tt), (tt, tt)))),
         (a_name _ refl refl, (a_name _ refl refl, (a_name _ refl refl, (a_name _ refl refl, tt)))),
       ),
-      (kept_str ns.db db_text, (kept_str ns.coll coll_text, (kept_bool eof, (kept_long z fit, tt)))),
+      (formed_str ns.db db_text, (formed_str ns.coll coll_text, (formed_bool eof, (formed_long z fit, tt)))),
     )
 
     head_fields_read : HeadFits ns → fields_of (head_text ns eof z) ≡ Ok (head_fields ns eof z)
@@ -144,13 +144,13 @@ module _ (m : Metadata) where
       omega (arith, document_length (meta_fields m), elements_size db_name (Str m.ns.db) ((collection_name, Str m.ns.coll) ∷ (metadata_name, Str m.text) ∷ rest), elements_size collection_name (Str m.ns.coll) ((metadata_name, Str m.text) ∷ rest), elements_size metadata_name (Str m.text) rest, elements_size size_name (Int (pos 0)) ((type_name, Str (codes "collection")) ∷ []), elements_size type_name (Str (codes "collection")) [], str_size m.ns.db, str_size m.ns.coll, str_size m.text, str_size (codes "collection"), int_size (pos 0))
 
   module _ (texts : AreTexts m.ns) (text : is_utf8 m.text ≡ true) where
-    meta_kept : IsKept (meta_fields m)
+    meta_kept : IsWellFormedDocument (meta_fields m)
     meta_kept = (
       (
         ((differ _ _ refl, (differ _ _ refl, (differ _ _ refl, (differ _ _ refl, tt)))), ((differ _ _ refl, (differ _ _ refl, (differ _ _ refl, tt))), ((differ _ _ refl, (differ _ _ refl, tt)), ((differ _ _ refl, tt), (tt, tt))))),
         (a_name _ refl refl, (a_name _ refl refl, (a_name _ refl refl, (a_name _ refl refl, (a_name _ refl refl, tt))))),
       ),
-      (kept_str m.ns.db texts.0, (kept_str m.ns.coll texts.1, (kept_str m.text text, (kept_int (pos 0) (search rules), (kept_str (codes "collection") (a_text (codes "collection") refl), tt))))),
+      (formed_str m.ns.db texts.0, (formed_str m.ns.coll texts.1, (formed_str m.text text, (formed_int (pos 0) (search rules), (formed_str (codes "collection") (a_text (codes "collection") refl), tt))))),
     )
 
     meta_fields_read : MetaFits m → fields_of (meta_text m) ≡ Ok (meta_fields m)
@@ -175,13 +175,13 @@ module _ (h : Header) where
       omega (arith, document_length (header_fields h), elements_size concurrent_name (Int h.concurrent) ((version_name, Str format_version) ∷ rest), elements_size version_name (Str format_version) rest, elements_size server_name (Str h.server) ((tool_name, Str h.tool) ∷ []), elements_size tool_name (Str h.tool) [], str_size format_version, str_size h.server, str_size h.tool, int_size h.concurrent)
 
   module _ (server_text : is_utf8 h.server ≡ true) (tool_text : is_utf8 h.tool ≡ true) (fit : FitsSigned w32 h.concurrent) where
-    header_kept : IsKept (header_fields h)
+    header_kept : IsWellFormedDocument (header_fields h)
     header_kept = (
       (
         ((differ _ _ refl, (differ _ _ refl, (differ _ _ refl, tt))), ((differ _ _ refl, (differ _ _ refl, tt)), ((differ _ _ refl, tt), (tt, tt)))),
         (a_name _ refl refl, (a_name _ refl refl, (a_name _ refl refl, (a_name _ refl refl, tt)))),
       ),
-      (kept_int h.concurrent fit, (kept_str format_version (a_text format_version refl), (kept_str h.server server_text, (kept_str h.tool tool_text, tt)))),
+      (formed_int h.concurrent fit, (formed_str format_version (a_text format_version refl), (formed_str h.server server_text, (formed_str h.tool tool_text, tt)))),
     )
 
     header_fields_read : HeaderFits h → fields_of (header_text h) ≡ Ok (header_fields h)

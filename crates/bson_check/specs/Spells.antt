@@ -5,6 +5,7 @@ use Rattle.std.specs.Int.{Width, w32, w64, byte_len, from_le_bytes, cast_signed}
 use Rattle.std.specs.Str.{is_utf8}
 use Rattle.containers.specs.Entries.{AreDistinct, names_of}
 use Rattle.bson_value.specs.Levels.{levels_of}
+pub use Rattle.bson_value.specs.WellFormed.{IsName}
 use Rattle.bson_value.specs.declared.value.Value.{Value, out-Value}
 use Rattle.bson_value.specs.declared.value.Value.TheOpen.{Value-F}
 
@@ -17,11 +18,6 @@ pub record IsCount (b : List ℕ) (n : ℕ) : Type 0 where
 pub record IsSigned (w : Width) (b : List ℕ) (z : ℤ) : Type 0 where
   pub count : length b ≡ byte_len w
   pub value : cast_signed w (from_le_bytes w b) ≡ z
-
--- a text without a zero
-pub record IsName (t : List ℕ) : Type 0 where
-  pub utf8 : is_utf8 t ≡ true
-  pub no_zero : Contains t 0 → ⊥
 
 -- a length that counts the zero at the end, a text, and the zero
 abbrev pub IsString : List ℕ → List ℕ → Type 0

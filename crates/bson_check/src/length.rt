@@ -7,6 +7,9 @@ use crate::fault::BsonKind;
 /// The most bytes of a document in an archive: 16 MiB, and room for the fields that a server adds.
 pub const MAX_DOCUMENT_BYTES: usize = 16_793_600;
 
+/// The most levels of a document in an archive, the document itself being the first.
+pub const MAX_LEVELS: usize = 200;
+
 /// How many bytes a document has whose first four bytes are these, its length as a signed number with
 /// the low byte first. `Length` below 5, the shortest document, and `TooLong` above 16,793,600.
 pub fn doc_len(first: [u8; 4]) -> Result<usize, BsonKind>

@@ -15,4 +15,4 @@ mod table;
 pub use checking::check;
 pub use fault::{BsonFault, BsonKind, DecodeFault};
 pub use laws::{faultless_if_spelled, levels_needed, spelled_once};
-pub use length::{MAX_DOCUMENT_BYTES, doc_len};
+pub use length::{MAX_DOCUMENT_BYTES, MAX_LEVELS, doc_len};

@@ -15,8 +15,9 @@ use Rattle.bson_value.specs.Spelling.{Typed, count_bytes, framed, numbered, coun
 use Rattle.bson_value.specs.declared.value.Value.{Value, Value-F, out-Value, roll-out-Value, fold-Value, fold-roll-Value, map-Value}
 use Rattle.bson_check.specs.Spells.{IsCount, IsSigned, IsName, IsString, IsFrame, type_byte, AreBytesOf, AreFields, AreItems, IsDocument, IsArray, Spells}
 use Rattle.bson_check.proofs.Height.{levels_at, levels_out, object_levels, code_levels, array_levels}
-use Rattle.bson_core.specs.Kept.{KeptIn, AllKept, ItemsKept, FieldsKept, IsKept, SpellingSpells}
-use Rattle.bson_core.proofs.Held.{HeldKept, held_kept, here_kept}
+use Rattle.bson_value.specs.WellFormed.{IsWellFormedLevel, IsWellFormed, AreWellFormedItems, AreWellFormedFields, IsWellFormedDocument}
+use Rattle.bson_core.specs.Laws.{SpellingSpells}
+use Rattle.bson_value.proofs.WellFormed.{IsHeldWellFormed, held_formed, here_formed}
 
 -- ---- parts
 
@@ -76,9 +77,9 @@ pub tag_is : (v : Value) → type_byte (out-Value v) ≡ tag_of v
 tag_is v = tag_at (out-Value v) ∙ sym (ap (λ (t : Typed). t.0) (spelling_out v))
 
 module _ (D : List ℕ → List (List ℕ × Value) → Type 0) (A : List ℕ → List Value → Type 0) (n : ℕ)
-    (documents : (fs : List (List ℕ × Value)) → IsKept fs → levels_of fs ≤ n → length (document_text fs) < 2 ^ 31 → D (document_text fs) fs)
-    (arrays : (vs : List Value) → ItemsKept vs → array_levels vs ≤ n → length (framed (items_of vs)) < 2 ^ 31 → A (framed (items_of vs)) vs) where
-  one_spelled : (x : Value-F Value) → KeptIn x → HeldKept x → levels_at x ≤ n → length (spelling_step (map-Value Value Typed spelling x)).1 < 2 ^ 31 → AreBytesOf D A (spelling_step (map-Value Value Typed spelling x)).1 x
+    (documents : (fs : List (List ℕ × Value)) → IsWellFormedDocument fs → levels_of fs ≤ n → length (document_text fs) < 2 ^ 31 → D (document_text fs) fs)
+    (arrays : (vs : List Value) → AreWellFormedItems vs → array_levels vs ≤ n → length (framed (items_of vs)) < 2 ^ 31 → A (framed (items_of vs)) vs) where
+  one_spelled : (x : Value-F Value) → IsWellFormedLevel x → IsHeldWellFormed x → levels_at x ≤ n → length (spelling_step (map-Value Value Typed spelling x)).1 < 2 ^ 31 → AreBytesOf D A (spelling_step (map-Value Value Typed spelling x)).1 x
   one_spelled (Value-F.Double d) k h le small = (k, refl)
   one_spelled (Value-F.Str t) k h le small = string_is t k small
   one_spelled (Value-F.Object fs) k h le small = documents fs (k, h) (omega (arith, le, object_levels fs)) small
@@ -112,18 +113,18 @@ module _ (D : List ℕ → List (List ℕ × Value) → Type 0) (A : List ℕ �
   one_spelled Value-F.MinKey k h le small = refl
   one_spelled Value-F.MaxKey k h le small = refl
 
-  value_spelled : (v : Value) → AllKept v → levels_in v ≤ n → length (spelled v) < 2 ^ 31 → AreBytesOf D A (spelled v) (out-Value v)
+  value_spelled : (v : Value) → IsWellFormed v → levels_in v ≤ n → length (spelled v) < 2 ^ 31 → AreBytesOf D A (spelled v) (out-Value v)
   value_spelled v k le small =
       let e = ap (λ (t : Typed). t.1) (spelling_out v) in
       subst (λ (b : List ℕ). AreBytesOf D A b (out-Value v)) (sym e)
-      (one_spelled (out-Value v) (here_kept v k) (held_kept v k) (omega (arith, le, levels_out v)) (subst (λ (b : List ℕ). length b < 2 ^ 31) e small))
+      (one_spelled (out-Value v) (here_formed v k) (held_formed v k) (omega (arith, le, levels_out v)) (subst (λ (b : List ℕ). length b < 2 ^ 31) e small))
 
   -- ---- elements
 
   element_is : (m b others : List ℕ) → (m ++ (0 ∷ b)) ++ others ≡ (m ++ 0 ∷ []) ++ (b ++ others)
   element_is m b others = append_assoc m (0 ∷ b) others ∙ sym (append_assoc m (0 ∷ []) (b ++ others))
 
-  fields_spelled : (fs : List (List ℕ × Value)) → AllByRecursion (λ e. IsName e.0) fs → FieldsKept fs → largest (map (λ e. levels_in e.1) fs) ≤ n → length (elements_of fs) < 2 ^ 31 → AreFields (λ c v. AreBytesOf D A c (out-Value v)) (elements_of fs) fs
+  fields_spelled : (fs : List (List ℕ × Value)) → AllByRecursion (λ e. IsName e.0) fs → AreWellFormedFields fs → largest (map (λ e. levels_in e.1) fs) ≤ n → length (elements_of fs) < 2 ^ 31 → AreFields (λ c v. AreBytesOf D A c (out-Value v)) (elements_of fs) fs
   fields_spelled [] names k le small = refl
   fields_spelled (e ∷ fs) names k le small =
       let b = spelled e.1 in
@@ -138,7 +139,7 @@ module _ (D : List ℕ → List (List ℕ × Value) → Type 0) (A : List ℕ �
         ap (λ (t : ℕ). t ∷ ((e.0 ++ (0 ∷ b)) ++ others)) (sym (tag_is e.1)) ∙ ap (λ (r : List ℕ). type_byte (out-Value e.1) ∷ r) parts,
       )
 
-  items_spelled : (i : ℕ) (vs : List Value) → i + length vs < 2 ^ 64 → ItemsKept vs → largest (map levels_in vs) ≤ n → length (numbered i (map spelling vs)) < 2 ^ 31 → AreItems (λ c v. AreBytesOf D A c (out-Value v)) (numbered i (map spelling vs)) vs
+  items_spelled : (i : ℕ) (vs : List Value) → i + length vs < 2 ^ 64 → AreWellFormedItems vs → largest (map levels_in vs) ≤ n → length (numbered i (map spelling vs)) < 2 ^ 31 → AreItems (λ c v. AreBytesOf D A c (out-Value v)) (numbered i (map spelling vs)) vs
   items_spelled i [] lt k le small = refl
   items_spelled i (v ∷ vs) lt k le small =
       let b = spelled v in
@@ -163,7 +164,7 @@ count_le i (v ∷ vs) = omega (arith, count_le (i + 1) vs, length-append (decima
 mutual
   unfolding IsDocument
 
-  pub document_spelled : (n : ℕ) (fs : List (List ℕ × Value)) → IsKept fs → levels_of fs ≤ n → length (document_text fs) < 2 ^ 31 → IsDocument n (document_text fs) fs
+  pub document_spelled : (n : ℕ) (fs : List (List ℕ × Value)) → IsWellFormedDocument fs → levels_of fs ≤ n → length (document_text fs) < 2 ^ 31 → IsDocument n (document_text fs) fs
   document_spelled zero fs k le small = absurd (omega (arith, le))
   document_spelled (suc n) fs k le small = (
     elements_of fs,
@@ -172,7 +173,7 @@ mutual
     fields_spelled (IsDocument n) (IsArray n) n (document_spelled n) (array_spelled n) fs k.0.1 k.1 (omega (arith, le)) (omega (arith, small, framed_len (elements_of fs))),
   )
 
-  pub array_spelled : (n : ℕ) (vs : List Value) → ItemsKept vs → array_levels vs ≤ n → length (framed (items_of vs)) < 2 ^ 31 → IsArray n (framed (items_of vs)) vs
+  pub array_spelled : (n : ℕ) (vs : List Value) → AreWellFormedItems vs → array_levels vs ≤ n → length (framed (items_of vs)) < 2 ^ 31 → IsArray n (framed (items_of vs)) vs
   array_spelled zero vs k le small = absurd (omega (arith, le))
   array_spelled (suc n) vs k le small =
       let len = framed_len (items_of vs) in (
@@ -185,6 +186,6 @@ pub spelling_spells : SpellingSpells
 unfolding Spells
 spelling_spells fs k small = (small, levels_of fs, document_spelled (levels_of fs) fs k (omega arith) small)
 
-pub written_spells : {E : Type 0} (fs : List (List ℕ × Value)) (r : Result (List ℕ) E) → IfOk r (λ b. b ≡ document_text fs) → OnOk r (IsKept fs) → IfOk r (λ b. length b < 2 ^ 31 → Spells b fs)
+pub written_spells : {E : Type 0} (fs : List (List ℕ × Value)) (r : Result (List ℕ) E) → IfOk r (λ b. b ≡ document_text fs) → OnOk r (IsWellFormedDocument fs) → IfOk r (λ b. length b < 2 ^ 31 → Spells b fs)
 written_spells fs (Ok b) is k = λ small. subst (λ (c : List ℕ). Spells c fs) (sym is) (spelling_spells fs k (subst (λ (c : List ℕ). length c < 2 ^ 31) is small))
 written_spells fs (Err e) is k = tt

@@ -3,7 +3,7 @@ ghost use Rattle.std.specs.Prelude.{◌≡◌, ◌+◌, ◌-◌, ◌<◌, ◌≤
 ghost use Rattle.std.specs.Str.{is_utf8};
 ghost use Rattle.std.specs.List.{AllByRecursion};
 ghost use Rattle.bson_check.specs.Spells.{IsName, Spells};
-ghost use Rattle.bson_core.specs.Kept.{AllKept, ItemsKept, FieldsKept, IsKept};
+ghost use Rattle.bson_value.specs.WellFormed.{IsWellFormed, AreWellFormedItems, AreWellFormedFields, IsWellFormedDocument};
 ghost use Rattle.bson_value.specs.Spelling.{spelling, tag_of, spelled, typed_fields, numbered, counted, text_bytes, elements_of, items_of, element, count_bytes, framed, document_text};
 
 use bson_value::{Bytes, CText, Doc, Text, Value};
@@ -93,11 +93,11 @@ pub fn type_of(value: &Value) -> u8
     }
 }
 
-#[tactic(auto, using(crate::proofs::Held::keeping))]
+#[tactic(auto, using(bson_value::proofs::WellFormed::well_formed))]
 #[cycle(encode)]
 fn put_value(alloc: Global, out: &mut Vec<u8>, value: &Value) -> Result<(), AllocError>
     ensures bytes { OnOk result (out.new.items ≡ out.old.items ++ spelled value.now) }
-    ensures kept { OnOk result (AllKept value.now) }
+    ensures kept { OnOk result (IsWellFormed value.now) }
 {
     match value {
         Value::Double(d) => {
@@ -159,7 +159,7 @@ fn put_value(alloc: Global, out: &mut Vec<u8>, value: &Value) -> Result<(), Allo
 #[cycle(encode)]
 fn put_scoped(alloc: Global, out: &mut Vec<u8>, code: &Text, scope: &Doc) -> Result<(), AllocError>
     ensures bytes { OnOk result (out.new.items ≡ out.old.items ++ counted (text_bytes code.now ++ document_text scope.now)) }
-    ensures kept { OnOk result ((is_utf8 code.now ≡ true) × IsKept scope.now) }
+    ensures kept { OnOk result ((is_utf8 code.now ≡ true) × IsWellFormedDocument scope.now) }
 {
     let start = out.len();
     out.extend_from_slice(&[0, 0, 0, 0])?;
@@ -172,7 +172,7 @@ fn put_scoped(alloc: Global, out: &mut Vec<u8>, code: &Text, scope: &Doc) -> Res
 #[cycle(encode)]
 fn put_document(alloc: Global, out: &mut Vec<u8>, doc: &Doc) -> Result<(), AllocError>
     ensures bytes { OnOk result (out.new.items ≡ out.old.items ++ document_text doc.now) }
-    ensures kept { OnOk result (IsKept doc.now) }
+    ensures kept { OnOk result (IsWellFormedDocument doc.now) }
 {
     let start = out.len();
     out.extend_from_slice(&[0, 0, 0, 0])?;
@@ -185,7 +185,7 @@ fn put_document(alloc: Global, out: &mut Vec<u8>, doc: &Doc) -> Result<(), Alloc
 #[cycle(encode)]
 fn put_array(alloc: Global, out: &mut Vec<u8>, items: &[Value]) -> Result<(), AllocError>
     ensures bytes { OnOk result (out.new.items ≡ out.old.items ++ framed (items_of items.now)) }
-    ensures kept { OnOk result (ItemsKept items.now) }
+    ensures kept { OnOk result (AreWellFormedItems items.now) }
 {
     let start = out.len();
     out.extend_from_slice(&[0, 0, 0, 0])?;
@@ -198,7 +198,7 @@ fn put_array(alloc: Global, out: &mut Vec<u8>, items: &[Value]) -> Result<(), Al
 #[cycle(encode)]
 fn put_fields(alloc: Global, out: &mut Vec<u8>, fields: &[(CText, Value)]) -> Result<(), AllocError>
     ensures bytes { OnOk result (out.new.items ≡ out.old.items ++ elements_of fields.now) }
-    ensures kept { OnOk result (AllByRecursion (λ e. IsName e.0) fields.now × FieldsKept fields.now) }
+    ensures kept { OnOk result (AllByRecursion (λ e. IsName e.0) fields.now × AreWellFormedFields fields.now) }
 {
     for field in fields {
         put_field(alloc, out, field)?;
@@ -209,7 +209,7 @@ fn put_fields(alloc: Global, out: &mut Vec<u8>, fields: &[(CText, Value)]) -> Re
 #[cycle(encode)]
 fn put_field(alloc: Global, out: &mut Vec<u8>, field: &(CText, Value)) -> Result<(), AllocError>
     ensures bytes { OnOk result (out.new.items ≡ out.old.items ++ element (field.now.0, spelling field.now.1)) }
-    ensures kept { OnOk result (IsName field.now.0 × AllKept field.now.1) }
+    ensures kept { OnOk result (IsName field.now.0 × IsWellFormed field.now.1) }
 {
     let name = name_of(&field.0);
     put_element(alloc, out, name.as_bytes(), &field.1)
@@ -218,7 +218,7 @@ fn put_field(alloc: Global, out: &mut Vec<u8>, field: &(CText, Value)) -> Result
 #[cycle(encode)]
 fn put_items(alloc: Global, out: &mut Vec<u8>, items: &[Value]) -> Result<(), AllocError>
     ensures bytes { OnOk result (out.new.items ≡ out.old.items ++ items_of items.now) }
-    ensures kept { OnOk result (ItemsKept items.now) }
+    ensures kept { OnOk result (AreWellFormedItems items.now) }
 {
     for i in 0..items.len() {
         let name = i.to_string(alloc)?;
@@ -235,7 +235,7 @@ fn put_element(
     value: &Value,
 ) -> Result<(), AllocError>
     ensures bytes { OnOk result (out.new.items ≡ out.old.items ++ element (name.now, spelling value.now)) }
-    ensures kept { OnOk result (AllKept value.now) }
+    ensures kept { OnOk result (IsWellFormed value.now) }
 {
     out.push(type_of(value))?;
     out.extend_from_slice(name)?;
@@ -245,7 +245,7 @@ fn put_element(
 
 fn whole(alloc: Global, doc: &Doc) -> Result<Bytes, AllocError>
     ensures bytes { IfOk result (λ bytes. bytes ≡ document_text doc.now) }
-    ensures kept { OnOk result (IsKept doc.now) }
+    ensures kept { OnOk result (IsWellFormedDocument doc.now) }
 {
     let mut out = Vec::new(alloc);
     put_document(alloc, &mut out, doc)?;

@@ -2,7 +2,10 @@ pub mod Depth
 pub mod Digits
 pub mod Child
 pub mod Alike
-pub mod Distinct
+pub mod WellFormed
+pub mod Indexes
+pub mod Ordered
+pub mod Sorted
 pub mod Unordered
 pub mod FirstDot
 pub mod Sizes

@@ -1,6 +1,6 @@
 -- How long spellings are, and how many levels values have, part by part.
 use Rattle.std.proofs.Common.{◌≡◌, ℕ, zero, suc, ◌+◌, ◌<◌, ◌≤◌, List, [], ◌∷◌, ◌++◌, length, map, take, get_or, max, refl, sym, ap, ◌∙◌, subst, arith, length-append}
-use Rattle.std.proofs.Common.{◌-◌}
+use Rattle.std.proofs.Common.{◌-◌, ◌%◌, ◌^◌}
 use Rattle.std.specs.Prelude.{Option, Some, None, MatchOption}
 use Rattle.std.specs.Fmt.{decimal}
 use Rattle.bson_value.specs.declared.value.Value.{Value, Value-F, roll-Value, fold-roll-Value, map-Value}
@@ -217,3 +217,16 @@ leaf_size v w n k room depth r is p q e h = value_size v w n 0 room depth r is (
 -- a result that is known to be None
 pub none_left : (b l room depth : ℕ) (r : Option ℕ) → r ≡ None → Leaves b l room depth None → Leaves b l room depth r
 none_left b l room depth r e h = subst (λ (o : Option ℕ). Leaves b l room depth o) (sym e) h
+
+-- ---- sums modulo 2 ^ 64
+
+pub items_total : (vs : List Value) (i : ℕ) (v : Value) (now name digits own part all : ℕ) → i < length vs → v ≡ get_or vs i v → now ≡ (length (items_of (take i vs)) + 5) % 2 ^ 64
+    → digits ≡ length (decimal i) → name ≡ (digits + 2) % 2 ^ 64 → own ≡ length (spelled v) % 2 ^ 64 → part ≡ (name + own) % 2 ^ 64 → all ≡ (now + part) % 2 ^ 64
+    → all ≡ (length (items_of (take (i + 1) vs)) + 5) % 2 ^ 64
+items_total vs i v now name digits own part all l h so d n o p a =
+    let e : suc i ≡ i + 1 = omega arith in
+    subst (λ (k : ℕ). all ≡ (length (items_of (take k vs)) + 5) % 2 ^ 64) e (omega (arith, so, d, n, o, p, a, items_step vs i v l h, element_length (decimal i) v))
+
+-- a value that is known
+pub value_total : (v w : Value) (c r : ℕ) → v ≡ w → length (spelled w) ≡ c → r ≡ c % 2 ^ 64 → r ≡ length (spelled v) % 2 ^ 64
+value_total v w c r is p e = e ∙ ap (λ (n : ℕ). n % 2 ^ 64) (sym p) ∙ ap (λ (x : Value). length (spelled x) % 2 ^ 64) (sym is)

@@ -2,9 +2,10 @@ pub mod formers
 pub mod Digits
 pub mod Place
 pub mod Alike
-pub mod Distinct
 pub mod Levels
 pub mod Spelling
 pub mod Namespace
+pub mod NamespaceOrder
 pub mod Size
 pub mod Timestamp
+pub mod WellFormed

@@ -1,5 +1,5 @@
 //! A list of names and what they name, with distinct names.
-ghost use Rattle.std.specs.Prelude.{◌≡◌, [], ◌∷◌, ◌++◌, ◌<◌, List, ℕ, length, slice_get, slice_set, remove, OnOk, OnErr, option_map, IfSome, IfNone};
+ghost use Rattle.std.specs.Prelude.{◌≡◌, [], ◌∷◌, ◌++◌, ◌<◌, List, ℕ, length, slice_get, slice_set, remove, OnOk, OnErr, option_map, IfSome, IfNone, Contains};
 ghost use Rattle.std.specs.Option.{option_copied};
 ghost use Rattle.std.specs.Borrow.{Lends, sem};
 ghost use Rattle.bson_value.specs.contracts.fields.Fields.{the_row as fields_row};
@@ -40,12 +40,25 @@ impl<T> Fields<T> {
         }
     }
 
+    /// The allocator that it grows by.
+    pub fn alloc(&self) -> Global {
+        *self.entries.allocator()
+    }
+
     /// These entries, in their own memory.
     pub fn of_distinct(entries: Vec<(CText, T)>) -> Fields<T>
         requires { AreDistinct (names_of entries.items) }
         ensures { result ≡ entries.items }
     {
         Fields { entries }
+    }
+
+    /// The entries, in the memory that they are kept in. `of_distinct` is the way back.
+    pub fn into_entries(self) -> Vec<(CText, T)>
+        ensures entries { result.items ≡ self }
+        ensures distinct { AreDistinct (names_of result.items) }
+    {
+        self.entries
     }
 
     /// The number of entries.
@@ -136,6 +149,15 @@ impl<T> Fields<T> {
         let entry = &mut self.entries[at];
         mem::replace(&mut entry.1, value)
     }
+
+    /// Takes the entry at this place out. Those behind it move up.
+    pub fn take(&mut self, at: usize) -> (CText, T)
+        requires { at < length self.old }
+        ensures entry { slice_get self.old at ≡ Some result }
+        ensures rest { self.new ≡ remove self.old at }
+    {
+        self.entries.remove(at)
+    }
 }
 
 impl<T: Drop> Fields<T> {
@@ -164,6 +186,35 @@ impl<T: Drop> Fields<T> {
     {
         self.entries.push((name, value))?;
         Ok(())
+    }
+
+    /// A new entry before all others.
+    pub fn add_first(&mut self, name: CText, value: T) -> Result<(), AllocError>
+        requires { IsAbsent name (names_of self.old) }
+        ensures ok { OnOk result (self.new ≡ (name, value) ∷ self.old) }
+        ensures err { OnErr result (self.new ≡ self.old) }
+    {
+        self.entries.insert(0, (name, value))?;
+        Ok(())
+    }
+
+    /// The entry in its place, or last. The name is copied only where it is new.
+    pub fn set_by_name(&mut self, alloc: Global, name: &str, value: T) -> Result<(), AllocError>
+        requires { Contains name.now 0 → ⊥ }
+        ensures ok { OnOk result (self.new ≡ put name.now value self.old) }
+        ensures err { OnErr result (self.new ≡ self.old) }
+    {
+        match self.place(name) {
+            Some(at) => {
+                let _ = self.replace(at, value);
+                Ok(())
+            }
+            None => {
+                let name = CText::of_text(alloc, name)?;
+                self.entries.push((name, value))?;
+                Ok(())
+            }
+        }
     }
 
     /// Takes the entry of this name out.

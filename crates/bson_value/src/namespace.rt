@@ -1,12 +1,20 @@
 //! Names of collections.
 ghost use Rattle.std.specs.Prelude.{◌≡◌, List, ℕ, IfOk, IfSome, IfNone};
+ghost use Rattle.std.specs.Prelude.{Some};
+ghost use Rattle.std.proofs.Common.{refl, rules};
+ghost use Rattle.std.specs.Cmp.Rules.{comparing};
+ghost use Rattle.std.specs.Cmp.{partial_order_from_own_ties};
 ghost use Rattle.bson_value.specs.Namespace.{IsSplit};
+ghost use Rattle.bson_value.specs.NamespaceOrder.{namespace_cmp};
 
 use containers::Text;
 use std::alloc::{AllocError, Global};
+use std::cmp::Ordering;
 
 /// A namespace: the name of a database, and that of a collection in it.
-#[derive(Debug, Drop)]
+///
+/// Namespaces are ordered by the bytes of the database, and then by those of the collection.
+#[derive(Debug, Drop, PartialEq, Eq)]
 pub struct NsName {
     pub db: Text,
     pub coll: Text,
@@ -39,5 +47,29 @@ impl NsName {
             db: self.db.copy(alloc)?,
             coll: self.coll.copy(alloc)?,
         })
+    }
+}
+
+impl Ord for NsName {
+    ghost cmp = { namespace_cmp };
+
+    ghost total = { Prim.search (comparing, rules) };
+
+    ghost matches_partial_cmp = { λ a b. refl };
+
+    ghost matches_eq = { Prim.search (comparing, rules) };
+
+    fn cmp(&self, other: &NsName) -> Ordering {
+        self.db.cmp(&other.db).then(self.coll.cmp(&other.coll))
+    }
+}
+
+impl PartialOrd for NsName {
+    ghost partial_cmp = { λ a b. Some (namespace_cmp a b) };
+
+    ghost laws = { partial_order_from_own_ties (Prim.search (comparing, rules)) (Prim.search (comparing, rules)) };
+
+    fn partial_cmp(&self, other: &NsName) -> Option<Ordering> {
+        Some(self.cmp(other))
     }
 }

@@ -9,8 +9,8 @@ use std::alloc::{AllocError, Global};
 pub type Doc = Fields<Value>;
 
 /// A timestamp of the oplog: seconds since 1970, and an ordinal among those of one second. It is
-/// ordered by the seconds first.
-#[derive(Clone, Copy, Debug, PartialEq, Eq, PartialOrd, Ord)]
+/// ordered by the seconds, and then by the ordinal.
+#[derive(Clone, Copy, Debug, PartialEq, Eq)]
 pub struct Ts {
     pub secs: u32,
     pub inc: u32,

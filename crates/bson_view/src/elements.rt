@@ -6,7 +6,7 @@ ghost use Rattle.bson_view.specs.Parts.{AreElements, HasElements, elements_in};
 use crate::elem::Elem;
 use bson_check::parts::zero_place;
 use bson_check::passing::after;
-use doc_path::index_of;
+use bson_value::index_of;
 
 /// The elements of a document or an array that are still to come, in order.
 #[derive(Clone, Copy, Debug)]

@@ -14,8 +14,7 @@ use crate::elem::Elem;
 use crate::view::View;
 use crate::walk::{HeldFields, HeldItems};
 use bson_core::type_of;
-use bson_value::{CText, Doc, List, Value};
-use doc_path::index_of;
+use bson_value::{CText, Doc, List, Value, index_of};
 
 /// A document that is spelled in borrowed bytes, or one that was built.
 #[derive(Clone, Copy)]

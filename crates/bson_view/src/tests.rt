@@ -3,7 +3,6 @@ ghost use Rattle.std.specs.Prelude.{◌<◌};
 
 use super::*;
 use bson_core::{BsonKind, CText, List, MAX_DOCUMENT_BYTES, decode};
-use doc_path::Path;
 use std::alloc::{AllocError, Global};
 use std::test::Fail;
 
@@ -58,6 +57,15 @@ string.0
 scoped.y
 null.x
 ";
+
+// The names of a dotted path.
+fn names_of(alloc: Global, path: &str) -> Result<List<CText>, Fail> {
+    let mut names = List::new(alloc);
+    for name in path.split('.') {
+        names.push(CText::of(alloc, name)?.ok_or("a zero in a name")?)?;
+    }
+    Ok(names)
+}
 
 fn digit(c: u8) -> u8
     ensures { result < 16 }
@@ -132,8 +140,7 @@ fn paths_through_every_kind(rt: HostRuntime) -> Result<(), Fail> {
     let doc = decode(rt.alloc(), &bytes, bytes.len(), 2)?;
     for line in FIELDS.lines().chain(PLACES.lines()) {
         let (text, tag, value) = told(rt.alloc(), line)?;
-        let path = Path::read(rt.alloc(), text)?;
-        let names = path.names();
+        let names = &names_of(rt.alloc(), text)?;
         assert!(rt; is_elem(view.get(names), tag, &value), "{line}");
         assert!(rt; has_type(Held::Spelled(view).get(names), tag), "{line}");
         assert!(rt; has_type(Held::Built(&doc).get(names), tag), "{line}");
@@ -147,8 +154,7 @@ fn paths_to_no_value(rt: HostRuntime) -> Result<(), Fail> {
     let view = View::check(&bytes, bytes.len(), 2)?;
     let doc = decode(rt.alloc(), &bytes, bytes.len(), 2)?;
     for text in NO_PLACES.lines() {
-        let path = Path::read(rt.alloc(), text)?;
-        let names = path.names();
+        let names = &names_of(rt.alloc(), text)?;
         assert!(rt; view.get(names).is_none(), "{text}");
         assert!(rt; Held::Built(&doc).get(names).is_none(), "{text}");
     }
@@ -165,10 +171,10 @@ fn a_path_through_an_array(rt: HostRuntime) -> Result<(), Fail> {
     )?;
     let view = View::check(&bytes, 1000, 3)?;
     let elem = view
-        .get(Path::read(rt.alloc(), "a.0.b")?.names())
+        .get(&names_of(rt.alloc(), "a.0.b")?)
         .ok_or("no element")?;
     assert_eq!(rt; (elem.tag, elem.value), (16, [7, 0, 0, 0].as_slice()));
-    assert!(rt; view.get(Path::read(rt.alloc(), "a.1")?.names()).is_none());
+    assert!(rt; view.get(&names_of(rt.alloc(), "a.1")?).is_none());
     Ok(())
 }
 
@@ -176,11 +182,9 @@ fn a_path_through_an_array(rt: HostRuntime) -> Result<(), Fail> {
 fn array_names_are_passed_over(rt: HostRuntime) -> Result<(), Fail> {
     let bytes = unhex(rt.alloc(), "10000000046100080000000a78000000")?;
     let view = View::check(&bytes, bytes.len(), 2)?;
-    let elem = view
-        .get(Path::read(rt.alloc(), "a.0")?.names())
-        .ok_or("no element")?;
+    let elem = view.get(&names_of(rt.alloc(), "a.0")?).ok_or("no element")?;
     assert_eq!(rt; (elem.name, elem.tag), (b"x".as_slice(), 10));
-    assert!(rt; view.get(Path::read(rt.alloc(), "a.x")?.names()).is_none());
+    assert!(rt; view.get(&names_of(rt.alloc(), "a.x")?).is_none());
     Ok(())
 }
 

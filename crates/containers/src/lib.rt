@@ -2,6 +2,7 @@
 #![tactic(auto)]
 
 mod list;
+mod order;
 mod text;
 
 pub use list::List;

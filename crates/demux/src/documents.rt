@@ -8,11 +8,8 @@ ghost use Rattle.demux.specs.Steps.{Unread};
 use archive_blocks::{NsHead, read_ns_head};
 use archive_format::DemuxFault;
 use archive_prelude::{Meta, PreludeFault, read_header, read_meta};
-use bson_core::{BsonFault, DecodeFault, Doc, MAX_DOCUMENT_BYTES, check, decode};
+use bson_core::{BsonFault, DecodeFault, Doc, MAX_DOCUMENT_BYTES, MAX_LEVELS, check, decode};
 use std::alloc::Global;
-
-// The most levels of a document.
-const MAX_LEVELS: usize = 200;
 
 /// The bytes are a document.
 #[tactic(auto, unfolding(archive_format::specs::Archive::fault_in, archive_format::specs::Archive::fields_of, bson_check::specs::Faults::first_fault))]

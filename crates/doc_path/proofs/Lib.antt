@@ -1,7 +1,6 @@
 pub mod Kept
 pub mod Last
 pub mod Places
-pub mod Indexes
 pub mod Decimals
 pub mod Steps
 pub mod Down

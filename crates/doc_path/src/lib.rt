@@ -11,7 +11,7 @@ mod touches;
 mod unsetting;
 mod writing;
 
-pub use index::{index_of, small_index};
+pub use index::small_index;
 pub use laws::{changes_are_played, covers_all_below, left_at_once};
 pub use parts::{Change, Form, Part};
 pub use path::{Path, PathFault};

@@ -3,8 +3,7 @@ ghost use Rattle.std.specs.Prelude.{◌≡◌, ◌↔◌, IsTrue, IfOk};
 ghost use Rattle.bson_value.specs.Digits.{digits};
 ghost use Rattle.doc_path.specs.Touch.{key_of};
 
-use crate::index::index_of;
-use bson_value::{CText, Value};
+use bson_value::{CText, Value, index_of};
 use std::alloc::{AllocError, Global};
 
 /// A part of a place.

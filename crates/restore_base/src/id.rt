@@ -6,12 +6,9 @@ ghost use Rattle.bson_view.specs.Views.{elem_value};
 ghost use Rattle.restore_base.specs.Base.{has_id, id_key, document_taken};
 ghost use Rattle.restore_base.specs.Kept.{holds_values};
 
-use bson_core::{CText, DecodeFault, Doc, MAX_DOCUMENT_BYTES, Value, decode, encode};
+use bson_core::{CText, DecodeFault, Doc, MAX_DOCUMENT_BYTES, MAX_LEVELS, Value, decode, encode};
 use bson_view::{Elem, View};
 use std::alloc::{AllocError, Global};
-
-/// The most levels of a document.
-pub const MAX_LEVELS: usize = 200;
 
 /// Whether the document has an `_id`.
 #[tactic(auto, unfolding(archive_format::specs::Archive::fault_in, archive_format::specs::Archive::fields_of, bson_check::specs::Faults::first_fault))]

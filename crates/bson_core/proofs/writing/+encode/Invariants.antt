@@ -4,7 +4,7 @@ use Rattle.std.specs.List.{AllByRecursion}
 use Rattle.bson_value.specs.declared.value.Value.{size-Value}
 use Rattle.bson_value.specs.Spelling.{elements_of, items_of}
 use Rattle.bson_check.specs.Spells.{IsName}
-use Rattle.bson_core.specs.Kept.{ItemsKept, FieldsKept}
+use Rattle.bson_value.specs.WellFormed.{AreWellFormedItems, AreWellFormedFields}
 use Rattle.bson_core.proofs.writing.+encode.Given as goal
 
 abbrev pub decreases-put_value : goal.decreases-put_value
@@ -35,11 +35,11 @@ abbrev pub invariant-put_fields-loop-field : goal.invariant-put_fields-loop-fiel
 invariant-put_fields-loop-field l = record {
   bytes : l.out.items ≡ l.fn.out.items ++ elements_of (take l.field-index l.fields);
   names : AllByRecursion (λ e. IsName e.0) (take l.field-index l.fields);
-  kept : FieldsKept (take l.field-index l.fields);
+  kept : AreWellFormedFields (take l.field-index l.fields);
 }
 
 abbrev pub invariant-put_items-loop-i : goal.invariant-put_items-loop-i
 invariant-put_items-loop-i l = record {
   bytes : l.out.items ≡ l.fn.out.items ++ items_of (take l.i-counter l.items);
-  kept : ItemsKept (take l.i-counter l.items);
+  kept : AreWellFormedItems (take l.i-counter l.items);
 }
