@@ -1,6 +1,6 @@
 -- What stands at a place, and elsewhere, after it is unset, and after a new length.
 use Rattle.std.proofs.Common.{◌≡◌, ◌≢◌, ℕ, zero, suc, ◌≤◌, List, [], ◌∷◌, ◌++◌, length, min, true, false, refl, sym, ap, ◌∙◌, subst, arith, Option, Some, None, inl, inr}
-use Rattle.std.specs.Prelude.{◌⊎◌, ◌↔◌, IsTrue, IsSome, is_some, Bool}
+use Rattle.std.specs.Prelude.{◌⊎◌}
 use Rattle.std.proofs.lemmas.Bool.{cases_Bool}
 use Rattle.std.specs.Str.{bytes_eq}
 use Rattle.bson_value.specs.declared.value.Value.{Value, Value-F, out-Value}
@@ -176,9 +176,6 @@ unset_at ws p v = record {
 pub is_unset_at : (parts ws : List Part) (p : Part) (v w : Value) → parts ≡ ws ++ (p ∷ []) → w ≡ walk_by leads None ws (unset_by leads p) v → IsUnsetAt parts v w
 is_unset_at parts ws p v w s e =
     subst (λ (z : List Part). IsUnsetAt z v w) (sym s) (subst (λ (z : Value). IsUnsetAt (ws ++ (p ∷ [])) v z) (sym e) (unset_at ws p v))
-
-pub some_iff : {A : Type 0} (b : Bool) (o : Option A) → b ≡ is_some o → IsTrue b ↔ IsSome o
-some_iff b o e = ((λ t. sym e ∙ t), λ s. e ∙ s)
 
 -- ---- a new length
 

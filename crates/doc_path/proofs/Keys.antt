@@ -21,18 +21,6 @@ no_index t m l none e = let h = none m (ap index_of e ∙ index_of-digits m) in 
 heads : (j k : List ℕ) (p q : Place) → j ∷ p ≡ k ∷ q → (j ≡ k) × (p ≡ q)
 heads j k p q e = (cc, cc)
 
-pub goes_on : (p f : Part) (ps fs rest : List Part) → key_of f ≡ key_of p → keys ps ≡ keys fs ++ keys rest → keys (p ∷ ps) ≡ keys (f ∷ fs) ++ keys rest
-goes_on p f ps fs rest k e = λ i. sym k i ∷ e i
-
-pub other_part : (p f : Part) (ps fs : List Part) (rest : Place) → (key_of f ≡ key_of p → ⊥) → keys (p ∷ ps) ≡ keys (f ∷ fs) ++ rest → ⊥
-other_part p f ps fs rest n e = n (sym (heads (key_of p) (key_of f) (keys ps) (keys fs ++ rest) e).0)
-
-pub other_rest : (p f : Part) (ps fs : List Part) (rest : Place) → (keys ps ≡ keys fs ++ rest → ⊥) → keys (p ∷ ps) ≡ keys (f ∷ fs) ++ rest → ⊥
-other_rest p f ps fs rest n e = n (heads (key_of p) (key_of f) (keys ps) (keys fs ++ rest) e).1
-
-pub too_short : (f : Part) (fs : List Part) (rest : Place) → keys [] ≡ keys (f ∷ fs) ++ rest → ⊥
-too_short f fs rest e = cc
-
 end_of : (p : Place) → p ++ [] ≡ p
 end_of [] = refl
 end_of (k ∷ p) = λ i. k ∷ end_of p i
@@ -58,9 +46,6 @@ above_there a b p rest e = (key_of p, keys rest, e)
 
 pub above_same : (a b : Place) → b ≡ a ++ keys [] → IsAbove a b → ⊥
 above_same a b e (k, rest, h) = let n = same_rest a (k ∷ rest) (sym (end_of a) ∙ (sym e ∙ h)) in cc
-
-pub above_not : (a b : Place) → ((rest : Place) → b ≡ a ++ rest → ⊥) → IsAbove a b → ⊥
-above_not a b none (k, rest, e) = none (k ∷ rest) e
 
 -- ---- what the code tests
 

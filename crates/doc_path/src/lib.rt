@@ -8,10 +8,9 @@ mod parts;
 mod path;
 mod place;
 mod touches;
-mod unsetting;
 mod writing;
 
-pub use index::small_index;
+pub use index::{INDEX_LIMIT, small_index};
 pub use laws::{changes_are_played, covers_all_below, left_at_once};
 pub use parts::{Change, Form, Part};
 pub use path::{Path, PathFault};

@@ -143,8 +143,8 @@ fn sets_and_resizes(rt: HostRuntime) -> Result<(), Fail> {
     let alloc = rt.alloc();
     let mut doc = Doc::new(alloc);
     let field = Place::new(alloc, Part::Name(name(alloc, "a")?))?;
-    set(alloc, &mut doc, &field, Value::Array(List::new(alloc)))?;
-    resize(alloc, &mut doc, &field, 2)?;
+    set(&mut doc, &field, Value::Array(List::new(alloc)))?;
+    resize(&mut doc, &field, 2)?;
     assert_eq!(rt; number(&doc, &place(alloc, "a.#1")?), Some(-1));
     assert_eq!(rt; number(&doc, &place(alloc, "a.#2")?), None);
     Ok(())
@@ -171,7 +171,7 @@ fn changes_in_both_forms(rt: HostRuntime) -> Result<(), Fail> {
             let at = place(alloc, text)?;
             if let Some((last, way)) = at.parts().as_slice().split_last() {
                 let five = Change::Put(Value::Int(5));
-                change_document(alloc, &mut doc, form, way, last, five)?;
+                change_document(&mut doc, form, way, last, five)?;
             }
             assert_eq!(rt; number(&doc, &at), after);
         }
