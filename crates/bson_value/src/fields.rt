@@ -40,6 +40,11 @@ impl<T> Fields<T> {
         }
     }
 
+    /// The allocator that it grows by.
+    pub fn alloc(&self) -> Global {
+        *self.entries.allocator()
+    }
+
     /// These entries, in their own memory.
     pub fn of_distinct(entries: Vec<(CText, T)>) -> Fields<T>
         requires { AreDistinct (names_of entries.items) }

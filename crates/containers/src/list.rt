@@ -46,6 +46,11 @@ impl<T> List<T> {
         })
     }
 
+    /// The allocator that it grows by.
+    pub fn alloc(&self) -> Global {
+        *self.items.allocator()
+    }
+
     /// These elements, in their own memory.
     pub fn from_vec(items: Vec<T>) -> List<T>
         ensures { result ≡ items.items }

@@ -13,9 +13,8 @@ use Rattle.doc_path.specs.declared.parts.Change.TheVariants.{Put}
 use Rattle.doc_path.specs.Touch.{Part, name, index, key_of, Touch, walk_by, set_by, below, from_key}
 use Rattle.doc_path.specs.Played.{touch_at}
 use Rattle.doc_path.specs.Ways.{leads, under, value_from, value_in, changed_along, changed_at, HasRoomFor, HasRoom, ChangesOnly}
-use Rattle.doc_path.proofs.Replay.{in_reach}
-use Rattle.doc_path.proofs.Frame.{put_keeps, step_keeps}
-use Rattle.doc_path.proofs.PlayedLaws.{split, split-append}
+use Rattle.doc_path.proofs.Kept.{in_reach, put_keeps, step_keeps}
+use Rattle.doc_path.proofs.Last.{split, split-append}
 use Rattle.doc_path.proofs.Down.{in_none}
 
 -- ---- one part
@@ -70,7 +69,7 @@ pub record FirstStep (p : Part) (ps : List Part) (v c : Value) : Type 0 where
   pub led : Led p v to
   pub rest : value_in ps to ≡ Some c
 
-first_step : (p : Part) (ps : List Part) (v c : Value) → value_in (p ∷ ps) v ≡ Some c → FirstStep p ps v c
+pub first_step : (p : Part) (ps : List Part) (v c : Value) → value_in (p ∷ ps) v ≡ Some c → FirstStep p ps v c
 first_step p ps v c e =
     elim (leads_or_not p v) [
       | inl n ↦ let h : None ≡ Some c = sym (ap (λ (o : Option Value). value_from o ps) n ∙ in_none ps) ∙ e in cc
@@ -86,7 +85,7 @@ value_in-append (p ∷ ps) qs v c e =
     ap (λ (o : Option Value). value_from o (ps ++ qs)) (under-led p v f.to f.led) ∙ value_in-append ps qs f.to c f.rest
 
 module _ (g : Value → Value) where
-  along_on : (p : Part) (ps : List Part) (v c : Value) → Led p v c → walk_by leads None (p ∷ ps) g v ≡ put v (key_of p) (walk_by leads None ps g c)
+  pub along_on : (p : Part) (ps : List Part) (v c : Value) → Led p v c → walk_by leads None (p ∷ ps) g v ≡ put v (key_of p) (walk_by leads None ps g c)
   along_on p ps v c l = rw (l.on, l.is) refl
 
   along_off : (p : Part) (ps : List Part) (v : Value) → under p v ≡ None → walk_by leads None (p ∷ ps) g v ≡ v

@@ -1,6 +1,6 @@
 -- What stands at a place, and elsewhere, after it is unset, and after a new length.
 use Rattle.std.proofs.Common.{◌≡◌, ◌≢◌, ℕ, zero, suc, ◌≤◌, List, [], ◌∷◌, ◌++◌, length, min, true, false, refl, sym, ap, ◌∙◌, subst, arith, Option, Some, None, inl, inr}
-use Rattle.std.specs.Prelude.{◌⊎◌, ◌↔◌, IsTrue, IsSome, is_some, Bool}
+use Rattle.std.specs.Prelude.{◌⊎◌}
 use Rattle.std.proofs.lemmas.Bool.{cases_Bool}
 use Rattle.std.specs.Str.{bytes_eq}
 use Rattle.bson_value.specs.declared.value.Value.{Value, Value-F, out-Value}
@@ -13,8 +13,8 @@ use Rattle.doc_path.specs.declared.parts.Change.TheVariants.{Delete, Resize as L
 use Rattle.doc_path.specs.Touch.{Part, name, index, key_of, Touch, unset_by, walk_by, resize_here, from_key, from_index}
 use Rattle.doc_path.specs.Played.{touch_at}
 use Rattle.doc_path.specs.Ways.{leads, under, value_from, value_in, changed_along, changed_at, emptied, ChangesOnly, IsResizedAt, ChangesOnlyBehind}
-use Rattle.doc_path.proofs.Frame.{del_keeps, sized_keeps}
-use Rattle.doc_path.proofs.PlayedLaws.{split-append, walk-append}
+use Rattle.doc_path.proofs.Kept.{del_keeps, sized_keeps}
+use Rattle.doc_path.proofs.Last.{split-append, walk-append}
 use Rattle.doc_path.proofs.Steps.{resized_array}
 use Rattle.doc_path.proofs.Down.{in_none}
 use Rattle.doc_path.proofs.Changed.{leads_or_not, value_in-append, along_there, along_missing, along_keeps, changed_at-append}
@@ -124,14 +124,14 @@ emptied-last [] p o = refl
 emptied-last (w ∷ []) p o = refl
 emptied-last (w ∷ (x ∷ ws)) p o = emptied-last (x ∷ ws) p o
 
-one_part : (p : Part) (v : Value) → value_in (p ∷ []) v ≡ under p v
+pub one_part : (p : Part) (v : Value) → value_in (p ∷ []) v ≡ under p v
 one_part p v = by (under p v)
   where
     by : (o : Option Value) → value_from o [] ≡ o
     by None = refl
     by (Some c) = refl
 
-value_in-append_none : (ps qs : List Part) (v : Value) → value_in ps v ≡ None → value_in (ps ++ qs) v ≡ None
+pub value_in-append_none : (ps qs : List Part) (v : Value) → value_in ps v ≡ None → value_in (ps ++ qs) v ≡ None
 value_in-append_none [] qs v e = cc
 value_in-append_none (p ∷ ps) qs v e =
     elim (leads_or_not p v) [
@@ -139,7 +139,7 @@ value_in-append_none (p ∷ ps) qs v e =
       | inr d ↦ ap (λ (o : Option Value). value_from o (ps ++ qs)) d.1 ∙ value_in-append_none ps qs d.0 (sym (ap (λ (o : Option Value). value_from o ps) d.1) ∙ e)
     ]
 
-there_or_not : (ps : List Part) (v : Value) → (value_in ps v ≡ None) ⊎ ((c : Value) × (value_in ps v ≡ Some c))
+pub there_or_not : (ps : List Part) (v : Value) → (value_in ps v ≡ None) ⊎ ((c : Value) × (value_in ps v ≡ Some c))
 there_or_not ps v = by (value_in ps v) refl
   where
     by : (o : Option Value) → value_in ps v ≡ o → (value_in ps v ≡ None) ⊎ ((c : Value) × (value_in ps v ≡ Some c))
@@ -176,9 +176,6 @@ unset_at ws p v = record {
 pub is_unset_at : (parts ws : List Part) (p : Part) (v w : Value) → parts ≡ ws ++ (p ∷ []) → w ≡ walk_by leads None ws (unset_by leads p) v → IsUnsetAt parts v w
 is_unset_at parts ws p v w s e =
     subst (λ (z : List Part). IsUnsetAt z v w) (sym s) (subst (λ (z : Value). IsUnsetAt (ws ++ (p ∷ [])) v z) (sym e) (unset_at ws p v))
-
-pub some_iff : {A : Type 0} (b : Bool) (o : Option A) → b ≡ is_some o → IsTrue b ↔ IsSome o
-some_iff b o e = ((λ t. sym e ∙ t), λ s. e ∙ s)
 
 -- ---- a new length
 

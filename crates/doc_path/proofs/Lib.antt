@@ -1,10 +1,5 @@
-pub mod Replay
-pub mod Cover
-pub mod Frame
-pub mod Done
-pub mod Order
-pub mod PlayedLaws
-pub mod Agreement
+pub mod Kept
+pub mod Last
 pub mod Places
 pub mod Decimals
 pub mod Steps
@@ -12,3 +7,7 @@ pub mod Down
 pub mod Changed
 pub mod Emptied
 pub mod Named
+pub mod Keys
+pub mod Cover
+pub mod Played
+pub mod Left

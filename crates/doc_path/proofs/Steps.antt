@@ -7,11 +7,10 @@ use Rattle.bson_value.specs.declared.value.Value.TheVariants.{Object, Array, out
 use Rattle.containers.specs.Entries.{lookup, put as put_field, without}
 use Rattle.bson_value.specs.Digits.{index_of, digits}
 use Rattle.bson_value.specs.Place.{Shape, a_leaf, a_code, an_object, an_array, shape_in, shape, nth, at_index, child, put_item, put_in, put, blank_item, del_in, del, sized}
-use Rattle.doc_path.specs.Touch.{Form, Part, name, index, key_of, limit, or_else, walk_by, set_by, unset_by, resize_in, resize_here, step_by, changed}
-use Rattle.doc_path.specs.declared.parts.Form.TheVariants as form
+use Rattle.doc_path.specs.Touch.{Part, name, index, key_of, limit, or_else, walk_by, set_by, unset_by, resize_in, resize_here, step_by}
 use Rattle.doc_path.specs.declared.parts.Rule.{Rule}
 use Rattle.doc_path.specs.declared.parts.Rule.TheVariants.{V1, V2, Plain}
-use Rattle.doc_path.specs.Rules.{taken_by, changed_by, rule_of}
+use Rattle.doc_path.specs.Rules.{taken_by}
 use Rattle.doc_path.specs.declared.parts.Change.{Change}
 use Rattle.doc_path.specs.declared.parts.Change.TheVariants.{Put, Delete, Resize as Length}
 use Rattle.bson_value.proofs.Digits.{index_of-digits}
@@ -158,11 +157,6 @@ array_off r p c vs e = last_off r p c (Array vs) (rw (shape-array vs) e)
 
 pub other_off : (r : Rule) (p : Part) (c : Change) (v : Value) → ((fs : List (List ℕ × Value)) → v ≡ Object fs → ⊥) → ((vs : List Value) → v ≡ Array vs → ⊥) → v ≡ step_by (taken_by r) p c v
 other_off r p c v a b = last_off r p c v (other_takes v r p a b)
-
-pub digits_last : (n : ℕ) (c : Change) (fs : List (List ℕ × Value)) → step_by (taken_by V1) (name (digits n)) c (Object fs) ≡ step_by (taken_by V1) (index n) c (Object fs)
-digits_last n (Put a) fs = rw (shape-object fs) refl
-digits_last n Delete fs = rw (shape-object fs) refl
-digits_last n (Length m) fs = digits_way None n [] (resize_here m) fs
 
 pub set_object : (r : Rule) (p : Part) (a : Value) (fs fs' : List (List ℕ × Value)) → taken_by r p an_object ≡ true → fs' ≡ put_field (key_of p) a fs → Object fs' ≡ set_by (taken_by r) p a (Object fs)
 set_object r p a fs fs' t e = ap Object e ∙ (sym (put-object fs (key_of p) a) ∙ sym (set_by-on (taken_by r) p a (Object fs) (takes_object r p fs t)))
@@ -324,14 +318,5 @@ last_delete r p c v w e h = subst (λ (z : Change). w ≡ step_by (taken_by r) p
 pub last_length : (r : Rule) (p : Part) (c : Change) (n : ℕ) (v w : Value) → c ≡ Length n → w ≡ walk_by (taken_by r) None (p ∷ []) (resize_here n) v → w ≡ step_by (taken_by r) p c v
 last_length r p c n v w e h = subst (λ (z : Change). w ≡ step_by (taken_by r) p z v) (sym e) h
 
-pub name_taken : (r : Rule) (p : Part) (k : List ℕ) → p ≡ name k → taken_by r p an_object ≡ true
-name_taken r p k e = subst (λ (z : Part). taken_by r z an_object ≡ true) (sym e) (takes_name r k)
-
 pub index_stays : (r : Rule) (p : Part) (d : Option Value) (ps : List Part) (g : Value → Value) (n : ℕ) (fs : List (List ℕ × Value)) → (r ≡ V1 → ⊥) → p ≡ index n → Object fs ≡ walk_by (taken_by r) d (p ∷ ps) g (Object fs)
 index_stays r p d ps g n fs h e = subst (λ (z : Part). Object fs ≡ walk_by (taken_by r) d (z ∷ ps) g (Object fs)) (sym e) (untaken r (index n) d ps g (Object fs) (rw (shape-object fs) (index_at_object r n h)))
-
--- ---- the rule of a form
-
-pub changed_in : (f : Form) (ps : List Part) (p : Part) (c : Change) (v : Value) → changed_by (rule_of f) ps p c v ≡ changed f ps p c v
-changed_in form.V1 ps p c v = refl
-changed_in form.V2 ps p c v = refl

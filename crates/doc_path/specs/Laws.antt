@@ -1,41 +1,39 @@
--- The laws of touches, and of documents that agree.
-use Rattle.std.specs.Prelude.{◌≡◌, ◌↔◌, List, [], ◌∷◌, ◌++◌, true, false, Some}
+-- The laws of what touches cover, and of what replay leaves at once.
+use Rattle.std.specs.Prelude.{◌≡◌, ◌↔◌, ◌||◌, List, [], ◌∷◌, ◌++◌, Bool, true, false}
 use Rattle.bson_value.specs.declared.value.Value.{Value}
-use Rattle.bson_value.specs.Place.{Place, look, LooksTheSame}
-use Rattle.bson_value.specs.Alike.{◌~◌}
-use Rattle.doc_path.specs.Touch.{Form, Touch, covers, Fits}
-use Rattle.doc_path.specs.Played.{is_left, played, played_all, NoneLeft}
-use Rattle.doc_path.specs.Agree.{any_covers, Agree, AllFit, InTouches, Records}
+use Rattle.bson_value.specs.Place.{Place}
+use Rattle.doc_path.specs.declared.parts.Part.{Part}
+use Rattle.doc_path.specs.declared.parts.Form.{Form}
+use Rattle.doc_path.specs.declared.parts.Change.{Change}
+use Rattle.doc_path.specs.Touch.{Touch, covers, play, changed}
+use Rattle.doc_path.specs.Played.{is_left, left_at, too_long, touch_at, played}
+use Rattle.doc_path.specs.Left.{IsLeftAtOnce}
+
+-- where it says yes of a place, it says yes of all below: where no below, no
+abbrev pub Hereditary : (Place → Bool) → Type 0
+Hereditary d = (q r : Place) → d (q ++ r) ≡ false → d q ≡ false
 
 abbrev pub CoversAllBelow : Type 0
 CoversAllBelow = (t : Touch) (q r : Place) → covers t q ≡ true → covers t (q ++ r) ≡ true
 
-abbrev pub AgreesWithItself : Type 0
-AgreesWithItself = (x : Value) → Agree x x []
+abbrev pub CoversHereditarily : Type 0
+CoversHereditarily = (t : Touch) → Hereditary (covers t)
 
-abbrev pub AgreedIsAlike : Type 0
-AgreedIsAlike = (y x : Value) → Agree y x [] ↔ (y ~ x)
+abbrev pub CoversNoRoot : Type 0
+CoversNoRoot = (t : Touch) → covers t [] ≡ false
 
-abbrev pub MoreTouchesAgree : Type 0
-MoreTouchesAgree = (y x : Value) (ts us : List Touch) → ((t : Touch) → InTouches t ts → InTouches t us) → Agree y x ts → Agree y x us
+abbrev pub LeftAtOnce : Type 0
+LeftAtOnce = (t : Touch) → (is_left t ≡ true) ↔ IsLeftAtOnce t
 
-abbrev pub DifferencesAreCovered : Type 0
-DifferencesAreCovered = (y x : Value) (ts : List Touch) → Agree y x ts → (q : Place) → (look (Some y) q ≡ look (Some x) q → ⊥) → any_covers ts q ≡ true
+abbrev pub LeftStays : Type 0
+LeftStays = (f : Form) (t : Touch) (v : Value) → IsLeftAtOnce t → played f t v ≡ v
 
-abbrev pub ChangesWhatItCovers : Type 0
-ChangesWhatItCovers = (f : Form) (t : Touch) (x : Value) → Fits f t x → (q : Place) → covers t q ≡ false → look (Some (played f t x)) q ≡ look (Some x) q
+abbrev pub OthersArePlayed : Type 0
+OthersArePlayed = (f : Form) (t : Touch) (v : Value) → (IsLeftAtOnce t → ⊥) → played f t v ≡ play f t v
 
-abbrev pub PlayingKeepsAgreement : Type 0
-PlayingKeepsAgreement = (f : Form) (t : Touch) (ts : List Touch) (y x : Value) → is_left t ≡ false → Fits f t x → Agree y x (t ∷ ts) → Agree (played f t y) (played f t x) ts
+-- what `change_document` does is what playing the touch does
+abbrev pub ChangeIsPlayed : Type 0
+ChangeIsPlayed = (f : Form) (ws : List Part) (p : Part) (c : Change) (v : Value) → left_at (ws ++ (p ∷ [])) ≡ false → too_long c ≡ false → changed f ws p c v ≡ played f (touch_at (ws ++ (p ∷ [])) c) v
 
-abbrev pub PlayingAllKeepsAgreement : Type 0
-PlayingAllKeepsAgreement = (f : Form) (ss ts : List Touch) (y x : Value) → NoneLeft ss → AllFit f ss x → Agree y x (ss ++ ts) → Agree (played_all f ss y) (played_all f ss x) ts
-
-abbrev pub RecordLaw : Type 0
-RecordLaw = (f : Form) (ss : List Touch) (old new : Value) → NoneLeft ss → Records f ss old new → LooksTheSame (played_all f ss old) new
-
-abbrev pub RecordHeals : Type 0
-RecordHeals = (f : Form) (ss ts : List Touch) (y old new : Value) → NoneLeft ss → Records f ss old new → Agree y old (ss ++ ts) → Agree (played_all f ss y) new ts
-
-abbrev pub AnyOrderRecords : Type 0
-AnyOrderRecords = (f : Form) (ts us : List Touch) (old new : Value) → ((t : Touch) → InTouches t ts → InTouches t us) → ((t : Touch) → InTouches t us → InTouches t ts) → Records f ts old new → Records f us old new
+abbrev pub FarChangeStays : Type 0
+FarChangeStays = (f : Form) (ws : List Part) (p : Part) (c : Change) (v : Value) → left_at (ws ++ (p ∷ [])) || too_long c ≡ true → played f (touch_at (ws ++ (p ∷ [])) c) v ≡ v

@@ -2,6 +2,7 @@ pub mod Touch
 pub mod Played
 pub mod Ways
 pub mod Rules
-pub mod Agree
 pub mod Paths
+pub mod Places
+pub mod Left
 pub mod Laws

@@ -1,11 +1,12 @@
 -- By which rule a change goes down a place: by that of a document's own places, or as replay does in one of its two forms.
-use Rattle.std.specs.Prelude.{Bool, List, Option, None}
+use Rattle.std.specs.Prelude.{◌≡◌, Bool, List, Option, None}
 use Rattle.bson_value.specs.declared.value.Value.{Value}
 use Rattle.bson_value.specs.Place.{Shape}
 use Rattle.doc_path.specs.declared.parts.Part.{Part}
 use Rattle.doc_path.specs.declared.parts.Form.{Form}
 use Rattle.doc_path.specs.declared.parts.Form.TheVariants as form
 use Rattle.doc_path.specs.declared.parts.Change.{Change}
+use Rattle.doc_path.specs.declared.parts.Change.TheVariants.{Delete}
 use Rattle.doc_path.specs.declared.parts.Rule.{Rule}
 use Rattle.doc_path.specs.declared.parts.Rule.TheVariants as rule
 use Rattle.doc_path.specs.Touch.{takes, walk_by, step_by, made_for}
@@ -29,3 +30,7 @@ changed_by r ps p c v = walk_by (taken_by r) (made_by r c) ps (step_by (taken_by
 abbrev pub rule_of : Form → Rule
 rule_of form.V1 = rule.V1
 rule_of form.V2 = rule.V2
+
+-- a change that takes no memory
+abbrev pub IsCalm : Rule → Change → Type 0
+IsCalm r c = (r ≡ rule.Plain) × (c ≡ Delete)

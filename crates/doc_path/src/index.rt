@@ -5,6 +5,9 @@ ghost use Rattle.bson_value.specs.Digits.{index_of as index_of_name};
 
 use bson_value::index_of;
 
+/// Indexes that replay takes, and lengths that it gives, are below this.
+pub const INDEX_LIMIT: usize = 2_097_152;
+
 /// The index whose name this is, in decimal digits without a zero in front. `None` exactly where the
 /// name is no index below 2,097,152.
 pub fn small_index(name: &str) -> Option<usize>
@@ -12,7 +15,7 @@ pub fn small_index(name: &str) -> Option<usize>
     ensures none { IfNone result (small (index_of_name name.now) ≡ false) }
 {
     match index_of(name) {
-        Some(at) if at < 2_097_152 => Some(at),
+        Some(at) if at < INDEX_LIMIT => Some(at),
         _ => None,
     }
 }

@@ -1,54 +1,24 @@
-//! Laws of touches. Each function does nothing, and its caller learns the law.
-ghost use Rattle.doc_path.specs.Laws.{CoversAllBelow, AgreesWithItself, AgreedIsAlike, MoreTouchesAgree, DifferencesAreCovered, ChangesWhatItCovers, PlayingKeepsAgreement, PlayingAllKeepsAgreement, RecordLaw, RecordHeals, AnyOrderRecords};
+//! Laws of what touches cover, and of what replay leaves at once. Each function does nothing, and its
+//! caller learns the law.
+ghost use Rattle.doc_path.specs.Laws.{CoversAllBelow, CoversHereditarily, CoversNoRoot, LeftAtOnce, LeftStays, OthersArePlayed, ChangeIsPlayed, FarChangeStays};
 
-/// What covers a place covers all that is below it.
+/// What covers a place covers all that is below it. No touch covers a whole document.
 pub fn covers_all_below()
-    ensures { CoversAllBelow }
+    ensures below { CoversAllBelow }
+    ensures hereditary { CoversHereditarily }
+    ensures root { CoversNoRoot }
 {}
 
-/// A document agrees with itself for no touches.
-pub fn agrees_with_itself()
-    ensures { AgreesWithItself }
+/// Replay leaves at once a touch whose place begins with the name `_id`, one with an index or a length
+/// of 2,097,152 or more, and no other. What is left changes nothing.
+pub fn left_at_once()
+    ensures exactly { LeftAtOnce }
+    ensures stays { LeftStays }
+    ensures others { OthersArePlayed }
 {}
 
-/// Two documents agree for no touches exactly where they are equal up to the order of fields.
-pub fn agreed_for_no_touches()
-    ensures { AgreedIsAlike }
-{}
-
-/// Documents that agree for some touches agree for any touches among which those are.
-pub fn more_touches_agree()
-    ensures { MoreTouchesAgree }
-{}
-
-/// Each place at which two documents that agree differ is covered.
-pub fn differences_are_covered()
-    ensures { DifferencesAreCovered }
-{}
-
-/// A touch that fits a document changes nothing in it but what it covers.
-pub fn changes_what_it_covers()
-    ensures { ChangesWhatItCovers }
-{}
-
-/// Touches that fit the second document are played on both. What they covered agrees from then on.
-pub fn playing_keeps_agreement()
-    ensures one { PlayingKeepsAgreement }
-    ensures all { PlayingAllKeepsAgreement }
-{}
-
-/// The touches that record an update, played on the old document, give at every place what stands in
-/// the new one.
-pub fn record_law()
-    ensures { RecordLaw }
-{}
-
-/// Played on a document that agrees with the old one, they give one that agrees with the new one.
-pub fn record_heals()
-    ensures { RecordHeals }
-{}
-
-/// The same touches record an update in any order.
-pub fn any_order_records()
-    ensures { AnyOrderRecords }
+/// A change that `change_document` makes is the touch at its place, played; unless that is left at once.
+pub fn changes_are_played()
+    ensures played { ChangeIsPlayed }
+    ensures stays { FarChangeStays }
 {}

@@ -4,14 +4,13 @@ ghost use Rattle.std.specs.Option.{option_copied};
 ghost use Rattle.bson_value.specs.declared.value.Value.{Object as object_of, Array as array_of};
 ghost use Rattle.doc_path.specs.declared.parts.Change.TheVariants.{Put, Delete, Resize as Length};
 ghost use Rattle.doc_path.specs.Played.{touch_at};
-ghost use Rattle.doc_path.specs.Ways.{under, value_in, changed_at, emptied, HasRoom, IsArrayAt, IsResizedAt, ChangesOnly, ChangesOnlyBehind};
+ghost use Rattle.doc_path.specs.Ways.{under, value_in, changed_along, changed_at, emptied, HasRoom, IsArrayAt, IsResizedAt, ChangesOnly, ChangesOnlyBehind};
 
 use crate::parts::{Change, Part, Rule};
 use crate::touches::Place;
-use crate::unsetting::unset_in;
 use crate::writing::change_in;
 use bson_value::{Doc, List, Value};
-use std::alloc::{AllocError, Global};
+use std::alloc::AllocError;
 
 /// The field that the part names.
 fn field<'d>(doc: &'d Doc, part: &Part) -> Option<&'d Value>
@@ -65,7 +64,7 @@ pub fn at<'d>(doc: &'d Doc, place: &Place) -> Option<&'d Value>
 
 /// Sets the value at the place: in the place of the one there, or as a new field at the end, or as a
 /// new element at the end.
-pub fn set(alloc: Global, doc: &mut Doc, place: &Place, value: Value) -> Result<(), AllocError>
+pub fn set(doc: &mut Doc, place: &Place, value: Value) -> Result<(), AllocError>
     requires { HasRoom place.now (object_of doc.old) }
     ensures document { OnOk result (object_of doc.new ≡ changed_at place.now (Put value) (object_of doc.old)) }
     ensures there { OnOk result (value_in place.now (object_of doc.new) ≡ Some value) }
@@ -74,8 +73,15 @@ pub fn set(alloc: Global, doc: &mut Doc, place: &Place, value: Value) -> Result<
 {
     match place.parts().as_slice().split_last() {
         None => Ok(()),
-        Some((last, way)) => change_in(alloc, doc, Rule::Plain, way, last, Change::Put(value)),
+        Some((last, way)) => change_in(doc, Rule::Plain, way, last, Change::Put(value)),
     }
+}
+
+/// Takes out what stands at the end of the way. It takes no memory.
+fn take_out(doc: &mut Doc, way: &[Part], last: &Part)
+    ensures { object_of doc.new ≡ changed_along way.now last.now Delete (object_of doc.old) }
+{
+    let _ = change_in(doc, Rule::Plain, way, last, Change::Delete);
 }
 
 /// Takes out the field at the place. An element there becomes null, so that those behind it stay
@@ -86,14 +92,18 @@ pub fn unset(doc: &mut Doc, place: &Place) -> bool
     ensures after { value_in place.now (object_of doc.new) ≡ emptied place.now (value_in place.now (object_of doc.old)) }
     ensures elsewhere { ChangesOnly (touch_at place.now Delete) (object_of doc.old) (object_of doc.new) }
 {
+    let there = at(doc, place).is_some();
     match place.parts().as_slice().split_last() {
         None => false,
-        Some((last, way)) => unset_in(doc, way, last),
+        Some((last, way)) => {
+            take_out(doc, way, last);
+            there
+        }
     }
 }
 
 /// Cuts the array at the place to this length, or pads it with nulls.
-pub fn resize(alloc: Global, doc: &mut Doc, place: &Place, len: u32) -> Result<(), AllocError>
+pub fn resize(doc: &mut Doc, place: &Place, len: u32) -> Result<(), AllocError>
     requires { IsArrayAt place.now (object_of doc.old) }
     ensures document { OnOk result (object_of doc.new ≡ changed_at place.now (Length len) (object_of doc.old)) }
     ensures there { OnOk result (IsResizedAt place.now len (object_of doc.old) (object_of doc.new)) }
@@ -102,6 +112,6 @@ pub fn resize(alloc: Global, doc: &mut Doc, place: &Place, len: u32) -> Result<(
 {
     match place.parts().as_slice().split_last() {
         None => Ok(()),
-        Some((last, way)) => change_in(alloc, doc, Rule::Plain, way, last, Change::Resize(len)),
+        Some((last, way)) => change_in(doc, Rule::Plain, way, last, Change::Resize(len)),
     }
 }

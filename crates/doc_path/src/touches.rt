@@ -1,5 +1,7 @@
 //! Places and touches.
-ghost use Rattle.std.specs.Prelude.{◌≡◌, [], ◌∷◌, ◌++◌, OnOk, OnErr, IfOk};
+ghost use Rattle.std.specs.Prelude.{◌≡◌, ◌↔◌, [], ◌∷◌, ◌++◌, IsTrue, OnOk, OnErr, IfOk, IfSome, IfNone};
+ghost use Rattle.bson_value.specs.Place.{Place as Names};
+ghost use Rattle.doc_path.specs.Places.{keys, IsAbove};
 
 use crate::parts::Part;
 use bson_value::{List, Value};
@@ -49,6 +51,63 @@ impl Place {
         ensures some { self.now ≡ [] → ⊥ }
     {
         &self.parts
+    }
+
+    /// An equal place.
+    pub fn copy(&self, alloc: Global) -> Result<Place, AllocError>
+        ensures { IfOk result (λ place. place ≡ self.now) }
+    {
+        Ok(Place {
+            parts: copy_parts(alloc, self.parts.as_slice())?,
+        })
+    }
+
+    /// Whether both are one place, part by part as `Part::same`. It takes no memory.
+    pub fn same(&self, other: &Place) -> bool
+        ensures { IsTrue result ↔ (keys self.now ≡ keys other.now) }
+    {
+        match behind(other.parts.as_slice(), self.parts.as_slice()) {
+            Some(rest) => rest.is_empty(),
+            None => false,
+        }
+    }
+
+    /// Whether the other place goes on from this one, by a part at least. It takes no memory.
+    pub fn is_above(&self, other: &Place) -> bool
+        ensures { IsTrue result ↔ IsAbove (keys self.now) (keys other.now) }
+    {
+        match behind(other.parts.as_slice(), self.parts.as_slice()) {
+            Some(rest) => !rest.is_empty(),
+            None => false,
+        }
+    }
+}
+
+fn copy_parts(alloc: Global, parts: &[Part]) -> Result<List<Part>, AllocError>
+    ensures { IfOk result (λ copies. copies ≡ parts.now) }
+{
+    let mut copies = List::new(alloc);
+    for part in parts {
+        copies.push(part.copy(alloc)?)?;
+    }
+    Ok(copies)
+}
+
+/// The parts of a place behind those of the other, where it begins with them.
+fn behind<'p>(place: &'p [Part], front: &[Part]) -> Option<&'p [Part]>
+    ensures some { IfSome result (λ rest. keys place.now ≡ keys front.now ++ keys rest.now) }
+    ensures none { IfNone result ((rest : Names) → keys place.now ≡ keys front.now ++ rest → ⊥) }
+{
+    match front.split_first() {
+        None => Some(place),
+        Some((first, others)) => {
+            let (part, rest) = place.split_first()?;
+            if first.same(part) {
+                behind(rest, others)
+            } else {
+                None
+            }
+        }
     }
 }
 

@@ -5,10 +5,10 @@ ghost use Rattle.bson_value.specs.Place.{an_array};
 ghost use Rattle.bson_value.specs.Digits.{digits, index_of as index_of_name};
 ghost use Rattle.containers.specs.Entries.{put as put_field};
 ghost use Rattle.doc_path.specs.Touch.{name as by_name, key_of, limit, walk_by, step_by, changed};
-ghost use Rattle.doc_path.specs.Rules.{taken_by, made_by, changed_by, rule_of as rule_for};
+ghost use Rattle.doc_path.specs.Rules.{taken_by, made_by, changed_by, rule_of as rule_for, IsCalm};
 
 use crate::elements::{blank_element, put_element, resize_value};
-use crate::index::small_index;
+use crate::index::{INDEX_LIMIT, small_index};
 use crate::parts::{Change, Form, Part, Rule};
 use bson_value::{CText, Doc, List, Value};
 use std::alloc::{AllocError, Global};
@@ -18,7 +18,7 @@ fn low_index(at: u32) -> Option<usize>
     ensures some { IfSome result (λ n. (n ≡ at) × (at < limit)) }
     ensures none { IfNone result (limit ≤ at) }
 {
-    if at < 2_097_152 {
+    if (at as usize) < INDEX_LIMIT {
         Some(at as usize)
     } else {
         None
@@ -51,7 +51,7 @@ fn digits_of(alloc: Global, at: u32) -> Result<CText, AllocError>
 }
 
 /// The value stands in the field of this name, which is made at the end where it is missing.
-fn set_field(alloc: Global, doc: &mut Doc, name: &CText, value: Value) -> Result<(), AllocError>
+fn set_field(doc: &mut Doc, name: &CText, value: Value) -> Result<(), AllocError>
     ensures ok { OnOk result (doc.new ≡ put_field name.now value doc.old) }
     ensures err { OnErr result (doc.new ≡ doc.old) }
 {
@@ -60,23 +60,21 @@ fn set_field(alloc: Global, doc: &mut Doc, name: &CText, value: Value) -> Result
             let _ = doc.replace(at, value);
             Ok(())
         }
-        None => doc.add(name.copy(alloc)?, value),
+        None => {
+            let name = name.copy(doc.alloc())?;
+            doc.add(name, value)
+        }
     }
 }
 
 /// A change of the field of this name.
-fn change_field(
-    alloc: Global,
-    doc: &mut Doc,
-    rule: Rule,
-    name: &CText,
-    action: Change,
-) -> Result<(), AllocError>
+fn change_field(doc: &mut Doc, rule: Rule, name: &CText, action: Change) -> Result<(), AllocError>
     ensures ok { OnOk result (object_of doc.new ≡ step_by (taken_by rule) (by_name name.now) action (object_of doc.old)) }
     ensures err { OnErr result (doc.new ≡ doc.old) }
+    ensures calm { OnErr result (IsCalm rule action → ⊥) }
 {
     match action {
-        Change::Put(value) => set_field(alloc, doc, name, value),
+        Change::Put(value) => set_field(doc, name, value),
         Change::Delete => {
             let _ = doc.remove(name.as_str());
             Ok(())
@@ -93,7 +91,6 @@ fn change_field(
 
 /// A change of the field that the part names.
 fn change_in_document(
-    alloc: Global,
     doc: &mut Doc,
     rule: Rule,
     last: &Part,
@@ -101,13 +98,14 @@ fn change_in_document(
 ) -> Result<(), AllocError>
     ensures ok { OnOk result (object_of doc.new ≡ step_by (taken_by rule) last.now action (object_of doc.old)) }
     ensures err { OnErr result (doc.new ≡ doc.old) }
+    ensures calm { OnErr result (IsCalm rule action → ⊥) }
 {
     match last {
-        Part::Name(name) => change_field(alloc, doc, rule, name, action),
+        Part::Name(name) => change_field(doc, rule, name, action),
         Part::Index(at) => match rule {
             Rule::V1 => {
-                let name = digits_of(alloc, *at)?;
-                change_field(alloc, doc, rule, &name, action)
+                let name = digits_of(doc.alloc(), *at)?;
+                change_field(doc, rule, &name, action)
             }
             _ => Ok(()),
         },
@@ -123,6 +121,7 @@ fn change_in_array(
 ) -> Result<(), AllocError>
     ensures ok { OnOk result (array_of items.new ≡ step_by (taken_by rule) last.now action (array_of items.old)) }
     ensures err { OnErr result (items.new ≡ items.old) }
+    ensures calm { OnErr result (IsCalm rule action → ⊥) }
 {
     match index_in_array(rule, last) {
         None => Ok(()),
@@ -145,18 +144,13 @@ fn change_in_array(
 }
 
 /// A change just below a value.
-fn change_here(
-    alloc: Global,
-    value: &mut Value,
-    rule: Rule,
-    last: &Part,
-    action: Change,
-) -> Result<(), AllocError>
+fn change_here(value: &mut Value, rule: Rule, last: &Part, action: Change) -> Result<(), AllocError>
     ensures ok { OnOk result (value.new ≡ step_by (taken_by rule) last.now action value.old) }
     ensures err { OnErr result (value.new ≡ value.old) }
+    ensures calm { OnErr result (IsCalm rule action → ⊥) }
 {
     match value {
-        Value::Object(doc) => change_in_document(alloc, doc, rule, last, action),
+        Value::Object(doc) => change_in_document(doc, rule, last, action),
         Value::Array(items) => change_in_array(items, rule, last, action),
         _ => Ok(()),
     }
@@ -175,7 +169,6 @@ fn makes(rule: Rule, action: &Change) -> bool
 /// A change at the end of the way.
 #[cycle(change)]
 fn change(
-    alloc: Global,
     value: &mut Value,
     rule: Rule,
     way: &[Part],
@@ -184,16 +177,16 @@ fn change(
 ) -> Result<(), AllocError>
     ensures ok { OnOk result (value.new ≡ changed_by rule way.now last.now action value.old) }
     ensures err { OnErr result (value.new ≡ value.old) }
+    ensures calm { OnErr result (IsCalm rule action → ⊥) }
 {
     match way.split_first() {
-        None => change_here(alloc, value, rule, last, action),
-        Some((first, rest)) => go(alloc, value, rule, first, rest, last, action),
+        None => change_here(value, rule, last, action),
+        Some((first, rest)) => go(value, rule, first, rest, last, action),
     }
 }
 
 #[cycle(change)]
 fn go(
-    alloc: Global,
     value: &mut Value,
     rule: Rule,
     first: &Part,
@@ -203,17 +196,17 @@ fn go(
 ) -> Result<(), AllocError>
     ensures ok { OnOk result (value.new ≡ walk_by (taken_by rule) (made_by rule action) (first.now ∷ rest.now) (step_by (taken_by rule) last.now action) value.old) }
     ensures err { OnErr result (value.new ≡ value.old) }
+    ensures calm { OnErr result (IsCalm rule action → ⊥) }
 {
     match value {
-        Value::Object(doc) => go_in_document(alloc, doc, rule, first, rest, last, action),
-        Value::Array(items) => go_in_array(alloc, items, rule, first, rest, last, action),
+        Value::Object(doc) => go_in_document(doc, rule, first, rest, last, action),
+        Value::Array(items) => go_in_array(items, rule, first, rest, last, action),
         _ => Ok(()),
     }
 }
 
 #[cycle(change)]
 fn go_in_document(
-    alloc: Global,
     doc: &mut Doc,
     rule: Rule,
     first: &Part,
@@ -223,13 +216,14 @@ fn go_in_document(
 ) -> Result<(), AllocError>
     ensures ok { OnOk result (object_of doc.new ≡ walk_by (taken_by rule) (made_by rule action) (first.now ∷ rest.now) (step_by (taken_by rule) last.now action) (object_of doc.old)) }
     ensures err { OnErr result (doc.new ≡ doc.old) }
+    ensures calm { OnErr result (IsCalm rule action → ⊥) }
 {
     match first {
-        Part::Name(name) => go_in_field(alloc, doc, rule, name, rest, last, action),
+        Part::Name(name) => go_in_field(doc, rule, name, rest, last, action),
         Part::Index(at) => match rule {
             Rule::V1 => {
-                let name = digits_of(alloc, *at)?;
-                go_in_field(alloc, doc, rule, &name, rest, last, action)
+                let name = digits_of(doc.alloc(), *at)?;
+                go_in_field(doc, rule, &name, rest, last, action)
             }
             _ => Ok(()),
         },
@@ -238,7 +232,6 @@ fn go_in_document(
 
 #[cycle(change)]
 fn go_in_field(
-    alloc: Global,
     doc: &mut Doc,
     rule: Rule,
     name: &CText,
@@ -248,17 +241,19 @@ fn go_in_field(
 ) -> Result<(), AllocError>
     ensures ok { OnOk result (object_of doc.new ≡ walk_by (taken_by rule) (made_by rule action) (by_name name.now ∷ rest.now) (step_by (taken_by rule) last.now action) (object_of doc.old)) }
     ensures err { OnErr result (doc.new ≡ doc.old) }
+    ensures calm { OnErr result (IsCalm rule action → ⊥) }
 {
     match doc.place(name.as_str()) {
         Some(at) => {
             let inner = doc.value_mut(at);
-            change(alloc, inner, rule, rest, last, action)
+            change(inner, rule, rest, last, action)
         }
         None => {
             if makes(rule, &action) {
-                let mut inner = Value::Object(Doc::new(alloc));
-                change(alloc, &mut inner, rule, rest, last, action)?;
-                doc.add(name.copy(alloc)?, inner)
+                let mut inner = Value::Object(Doc::new(doc.alloc()));
+                change(&mut inner, rule, rest, last, action)?;
+                let name = name.copy(doc.alloc())?;
+                doc.add(name, inner)
             } else {
                 Ok(())
             }
@@ -268,7 +263,6 @@ fn go_in_field(
 
 #[cycle(change)]
 fn go_in_array(
-    alloc: Global,
     items: &mut List<Value>,
     rule: Rule,
     first: &Part,
@@ -278,16 +272,17 @@ fn go_in_array(
 ) -> Result<(), AllocError>
     ensures ok { OnOk result (array_of items.new ≡ walk_by (taken_by rule) (made_by rule action) (first.now ∷ rest.now) (step_by (taken_by rule) last.now action) (array_of items.old)) }
     ensures err { OnErr result (items.new ≡ items.old) }
+    ensures calm { OnErr result (IsCalm rule action → ⊥) }
 {
     match index_in_array(rule, first) {
         None => Ok(()),
         Some(at) => {
             if at < items.len() {
                 let inner = items.item_mut(at);
-                change(alloc, inner, rule, rest, last, action)
+                change(inner, rule, rest, last, action)
             } else if makes(rule, &action) {
-                let mut inner = Value::Object(Doc::new(alloc));
-                change(alloc, &mut inner, rule, rest, last, action)?;
+                let mut inner = Value::Object(Doc::new(items.alloc()));
+                change(&mut inner, rule, rest, last, action)?;
                 put_element(items, at, inner)
             } else {
                 Ok(())
@@ -298,7 +293,6 @@ fn go_in_array(
 
 /// A change at the end of the way in a document.
 pub fn change_in(
-    alloc: Global,
     doc: &mut Doc,
     rule: Rule,
     way: &[Part],
@@ -307,10 +301,11 @@ pub fn change_in(
 ) -> Result<(), AllocError>
     ensures ok { OnOk result (object_of doc.new ≡ changed_by rule way.now last.now action (object_of doc.old)) }
     ensures err { OnErr result (doc.new ≡ doc.old) }
+    ensures calm { OnErr result (IsCalm rule action → ⊥) }
 {
     match way.split_first() {
-        None => change_in_document(alloc, doc, rule, last, action),
-        Some((first, rest)) => go_in_document(alloc, doc, rule, first, rest, last, action),
+        None => change_in_document(doc, rule, last, action),
+        Some((first, rest)) => go_in_document(doc, rule, first, rest, last, action),
     }
 }
 
@@ -327,7 +322,6 @@ fn rule_of(form: Form) -> Rule
 /// or the form doesn't take a part, the document stays. What replay leaves at once, as a place within
 /// `_id`, isn't told apart here.
 pub fn change_document(
-    alloc: Global,
     doc: &mut Doc,
     form: Form,
     way: &[Part],
@@ -337,5 +331,5 @@ pub fn change_document(
     ensures ok { OnOk result (object_of doc.new ≡ changed form way.now last.now action (object_of doc.old)) }
     ensures err { OnErr result (doc.new ≡ doc.old) }
 {
-    change_in(alloc, doc, rule_of(form), way, last, action)
+    change_in(doc, rule_of(form), way, last, action)
 }

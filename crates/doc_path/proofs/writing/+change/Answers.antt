@@ -14,12 +14,14 @@ go-returns-in_default t c =
     record {
       ok = other_untaken c.args.rule c.args.first.now (made_by c.args.rule c.args.action) c.args.rest.now (step_by (taken_by c.args.rule) c.args.last.now c.args.action) c.args.value.now c.in_default.not-Object c.in_default.not-Array;
       err = tt;
+      calm = tt;
     }
 
 pub go_in_document-returns-in_default : goal.go_in_document-returns-in_default
 go_in_document-returns-in_default t c = record {
   ok = index_stays c.args.rule c.args.first.now (made_by c.args.rule c.args.action) c.args.rest.now (step_by (taken_by c.args.rule) c.args.last.now c.args.action) c.in-Index.at c.args.doc.now c.in_default.not-V1 c.in-Index.is;
   err = tt;
+  calm = tt;
 }
 
 pub go_in_field-returns-in-Some-clause-ok : goal.go_in_field-returns-in-Some-clause-ok
@@ -36,14 +38,14 @@ go_in_field-returns-in-Some-clause-err t c =
     let found = found_at c.args.name.now c.args.doc.now c.in-Some.at c.value_mut-inner.result.now place c.value_mut-inner.ensures.value in
     on_err c.change.result (λ e. sym ((place_is c.args.name.now c.args.doc.now c.in-Some.at place).written c.change.new.value) ∙ put_same c.args.doc.now c.args.name.now c.change.new.value (found ∙ ap Some (sym e))) c.change.ensures.err
 
-pub go_in_field-returns-in_ok-copy-in-None-clause-ok : goal.go_in_field-returns-in_ok-copy-in-None-clause-ok
-go_in_field-returns-in_ok-copy-in-None-clause-ok t c =
+pub go_in_field-returns-in_ok-name-in-None-clause-ok : goal.go_in_field-returns-in_ok-name-in-None-clause-ok
+go_in_field-returns-in_ok-name-in-None-clause-ok t c =
     let place = rw c.as_str.ensures.text at c.in-None.ensures.place in
     let none = ap (λ (o : Option Value). or_else o (made_by c.args.rule c.args.action)) (not_found c.args.name.now c.args.doc.now place) ∙ c.makes.ensures.0 c.if-makes.true in
     let inner = rw c.new.ensures at c.in_ok-change-in-None.ensures.ok in
     on_ok c.add.result (λ e.
     doc_step c.args.rule (name c.args.name.now) (made_by c.args.rule c.args.action) c.args.rest.now (step_by (taken_by c.args.rule) c.args.last.now c.args.action) c.args.doc.now c.add.new.self (Object []) c.change-then-makes.new.value (takes_name c.args.rule c.args.name.now)
-    none inner (rw c.in_ok-copy-in-None.ensures at e ∙ sym ((has_not c.args.name.now c.args.doc.now place).written c.change-then-makes.new.value))) c.add.ensures.ok
+    none inner (rw c.in_ok-name-in-None.ensures at e ∙ sym ((has_not c.args.name.now c.args.doc.now place).written c.change-then-makes.new.value))) c.add.ensures.ok
 
 pub go_in_field-returns-else-makes-clause-ok : goal.go_in_field-returns-else-makes-clause-ok
 go_in_field-returns-else-makes-clause-ok t c =
