@@ -1,10 +1,9 @@
 -- Which touches replay leaves at once, said of their places and lengths.
-use Rattle.std.specs.Prelude.{ℕ, ◌≡◌, ◌≤◌, ◌⊎◌, List, [], ◌∷◌, ◌++◌}
+use Rattle.std.specs.Prelude.{ℕ, ◌≡◌, ◌≤◌, ◌⊎◌, List, [], ◌∷◌, ◌++◌, codes}
 use Rattle.std.specs.List.{Contains}
 use Rattle.doc_path.specs.declared.parts.Part.{Part}
 use Rattle.doc_path.specs.declared.parts.Part.TheVariants.{Name as name, Index as index}
 use Rattle.doc_path.specs.Touch.{Touch, Set, Unset, Resize, limit}
-use Rattle.doc_path.specs.Played.{id_name}
 
 -- the parts of its place
 abbrev pub place_of : Touch → List Part
@@ -13,7 +12,7 @@ place_of (Unset ps p) = ps ++ (p ∷ [])
 place_of (Resize ps n) = ps
 
 abbrev pub BeginsWithId : List Part → Type 0
-BeginsWithId ps = (rest : List Part) × (ps ≡ name id_name ∷ rest)
+BeginsWithId ps = (rest : List Part) × (ps ≡ name (codes "_id") ∷ rest)
 
 abbrev pub HasFarIndex : List Part → Type 0
 HasFarIndex ps = (n : ℕ) × (limit ≤ n) × Contains ps (index n)
