@@ -1,18 +1,19 @@
 -- What one turn does to what is known of the whole input.
-use Rattle.std.proofs.Common.{◌≡◌, inl, inr, ℕ, ◌+◌, ◌-◌, ◌<◌, ◌≤◌, Bool, true, false, ltb, List, [], ◌∷◌, ◌++◌, length, take, drop, refl, ap, subst, ◌∙◌, append_assoc, arith}
-use Rattle.std.specs.Prelude.{None, Some, Option}
+use Rattle.std.proofs.Common.{◌≡◌, inl, inr, ◌⊎◌, ℕ, ◌+◌, ◌-◌, ◌<◌, ◌≤◌, Bool, true, false, ltb, List, [], ◌∷◌, ◌++◌, length, take, drop, refl, sym, ap, subst, ◌∙◌, append_assoc, arith}
+use Rattle.std.specs.Prelude.{None, Some, Option, Result, Ok, Err}
 use Rattle.std.proofs.lemmas.List.{append-nil, length-take}
 use Rattle.std.proofs.lemmas.Bool.{le-ltb, cases_lt, cases_Bool}
-use Rattle.std.specs.Io.KnownBytes.{Consumes, IsAtEnd}
+use Rattle.std.specs.Io.KnownBytes.{Consumes, IsAtEnd, Keeps}
 use Rattle.archive_format.specs.declared.fault.DemuxFault.{DemuxFault}
 use Rattle.archive_format.specs.declared.fault.DemuxFault.TheVariants as faults
 use Rattle.archive_format.specs.Archive.{Taking, Stage, Verdict, goes, bad, short, onward, wrong, next, unless_early, judged, step, item_of, limit, ending, early, size_of, is_stop, is_magic, EndsOf}
 use Rattle.demux.specs.Takes.{Took}
-use Rattle.demux.specs.Steps.{Stuck, Refused}
-use Rattle.demux.specs.Told.{Holds, Stands, Whole, Part, Stop, Tells_fault, Fault_told, End_told}
+use Rattle.demux.specs.Steps.{Stuck, Refused, AsksFirst}
+use Rattle.demux.specs.Told.{Holds, Stands, IsNear, Reach, Whole, Wrong, Part, Stop, Starved, Broken, Tells_fault, Fault_told, End_told, Turns}
 use Rattle.archive_format.proofs.Fronts.{early_fits, item_found, met_length}
 use Rattle.demux.proofs.Takings.{took_join}
-use Rattle.demux.proofs.Sight.{fault_found, too_long, ends_short, first_of_all, goes_on, filled}
+use Rattle.demux.proofs.Begin.{cut_asks}
+use Rattle.demux.proofs.Sight.{size, fault_found, too_long, ends_short, first_of_all, goes_on, filled}
 
 module _ (keep : Taking → Bool) (before old new : Option (List Taking)) (why : Taking → Bool) (s : Stage) (at : ℕ) (held : List ℕ) where
   pub item_taken : (first now : Option (List ℕ)) (m : Stage) (one : List Taking) (n : ℕ) → Stands first now s at held keep before old → next s at (take (limit - at) held) ≡ onward m one n → Took keep old new one
@@ -28,42 +29,59 @@ module _ (keep : Taking → Bool) (before old new : Option (List Taking)) (why :
   pub stands_kept : (first now : Option (List ℕ)) → Stands first now s at held keep before old → Took keep old new [] → Stands first now s at held keep before new
   stands_kept first now h t = record { given = h.given; watch = h.watch; took = took_same h.given h.took t }
 
-  whole : (all left : List ℕ) (f : DemuxFault) (given : List Taking) → Holds all s at held left given → next s at (take (limit - at) held) ≡ wrong f → Took keep before old given → Took keep old new [] → Whole all (Some f) keep before new
-  whole all left f given h e p q = record { given = given; ends = fault_found all s at held left given h f e; took = took_same given p q }
+  module _ (all left : List ℕ) (later : Option (List ℕ)) (given : List Taking) (h : Holds all s at held left given) (room : length held ≤ 16793600) (still : later ≡ Some left) where
+    abbrev reach : Reach all later given
+    reach = record { stage = s; to = at; rest = held ++ left; clean = h.clean; near = subst (IsNear (length all) at) (sym still) (omega (arith, size all s at held left given h, room)) }
 
-  part : (all left : List ℕ) (given : List Taking) → Holds all s at held left given → Took keep before old given → Took keep old new [] → Part all keep before new
-  part all left given h p q = let k = first_of_all all s at held left given h in record { given = given; more = k.0; fault = k.1; ends = k.2; took = took_same given p q }
+    whole : (f : DemuxFault) → next s at (take (limit - at) held) ≡ wrong f → Took keep before old given → Took keep old new [] → Wrong all later f keep before new
+    whole f e p q = record { whole = record { given = given; ends = fault_found all s at held left given h f e; took = took_same given p q }; reach = reach }
 
-  stop : (all left : List ℕ) (given : List Taking) (t : Stage) (one : Taking) (n : ℕ) → Holds all s at held left given → next s at (take (limit - at) held) ≡ onward t (one ∷ []) n → Took keep before old given → Took keep old new [] → why one ≡ true → Stop all keep before new why
-  stop all left given t one n h e p q w =
-      let on = (goes_on all s at held left given h t (one ∷ []) n e).2 in
-      let k = first_of_all all t (at + n) (drop n held) left (given ++ (one ∷ [])) on in
-      record { given = given; refused = one; more = k.0; fault = k.1; ends = subst (λ z. EndsOf all z k.1) (append_assoc given (one ∷ []) k.0) k.2; took = took_same given p q; told = w }
+    abbrev part : Took keep before old given → Took keep old new [] → Part all later keep before new
+    part p q = let k = first_of_all all s at held left given h in record { given = given; more = k.0; fault = k.1; ends = k.2; took = took_same given p q; reach = reach }
 
-  known_stuck : (all left : List ℕ) (f : DemuxFault) (given : List Taking) → Holds all s at held left given → Took keep before old given → Stuck f (next s at (take (limit - at) held)) keep old new why → Tells_fault f all keep before new why
-  known_stuck all left faults.NoMemory given h p u = part all left given h p u
-  known_stuck all left faults.ReadFault given h p u = absurd u
-  known_stuck all left faults.Stopped given h p u = stop all left given u.0 u.1 u.2 h u.3 p u.4 u.5
-  known_stuck all left faults.BadMagic given h p u = whole all left _ given h u.0 p u.1
-  known_stuck all left (faults.Truncated a) given h p u = whole all left _ given h u.0 p u.1
-  known_stuck all left (faults.BadBson a k) given h p u = whole all left _ given h u.0 p u.1
-  known_stuck all left (faults.BadPrelude a) given h p u = whole all left _ given h u.0 p u.1
-  known_stuck all left (faults.BadHeader a) given h p u = whole all left _ given h u.0 p u.1
-  known_stuck all left (faults.AfterEnd n a) given h p u = whole all left _ given h u.0 p u.1
-  known_stuck all left (faults.DocsInEnd a) given h p u = whole all left _ given h u.0 p u.1
-  known_stuck all left (faults.Crc n a b) given h p u = whole all left _ given h u.0 p u.1
-  known_stuck all left (faults.NotEnded n) given h p u = whole all left _ given h u.0 p u.1
-  known_stuck all left faults.TooLong given h p u = whole all left _ given h u.0 p u.1
+    stop : (t : Stage) (one : Taking) (n : ℕ) → next s at (take (limit - at) held) ≡ onward t (one ∷ []) n → Took keep before old given → Took keep old new [] → why one ≡ true → Stop all later keep before new why
+    stop t one n e p q w =
+        let on = (goes_on all s at held left given h t (one ∷ []) n e).2 in
+        let k = first_of_all all t (at + n) (drop n held) left (given ++ (one ∷ [])) on in
+        record { given = given; refused = one; more = k.0; fault = k.1; ends = subst (λ z. EndsOf all z k.1) (append_assoc given (one ∷ []) k.0) k.2; took = took_same given p q; told = w; reach = reach }
 
-  pub item_stuck : (first now : Option (List ℕ)) (f : DemuxFault) → Stands first now s at held keep before old → Stuck f (next s at (take (limit - at) held)) keep old new why → Fault_told f first keep before new why
-  item_stuck None now f h u = tt
-  item_stuck (Some all) None f h u = absurd h.watch
-  item_stuck (Some all) (Some left) f h u = known_stuck all left f h.given h.watch h.took u
+    starved : (rose : Type 0) → rose ⊎ AsksFirst s (take (limit - at) held) → Took keep before old given → Took keep old new [] → Starved all later keep before new rose
+    starved rose cause p q = record {
+      part = part p q;
+      cause = elim cause [ inl r ↦ inl r | inr a ↦ inr (cut_asks s (limit - at) held left a) ];
+    }
 
-  pub far_told : (first now : Option (List ℕ)) → Stands first now s at held keep before old → next s at (take (limit - at) held) ≡ short → limit < at + length held → Took keep old new [] → Fault_told faults.TooLong first keep before new why
-  far_told None now h e far t = tt
-  far_told (Some all) None h e far t = absurd h.watch
-  far_told (Some all) (Some left) h e far t = record { given = h.given; ends = too_long all s at held left h.given h.watch e far; took = took_same h.given h.took t }
+    broken : next s at held ≡ short → Took keep before old given → Took keep old new [] → Broken all later keep before new
+    broken e p q = record { part = part p q; held = held; left = left; now_left = still; is_rest = refl; unsettled = e }
+
+    known_stuck : (rose : Type 0) (f : DemuxFault) → (f ≡ faults.NoMemory → rose ⊎ AsksFirst s (take (limit - at) held)) → Took keep before old given → Stuck f (next s at (take (limit - at) held)) keep old new why
+        → Tells_fault f all later keep before new why rose
+    known_stuck rose faults.NoMemory cause p u = starved rose (cause refl) p u
+    known_stuck rose faults.ReadFault cause p u = absurd u
+    known_stuck rose faults.Stopped cause p u = stop u.0 u.1 u.2 u.3 p u.4 u.5
+    known_stuck rose faults.BadMagic cause p u = whole _ u.0 p u.1
+    known_stuck rose (faults.Truncated a) cause p u = whole _ u.0 p u.1
+    known_stuck rose (faults.BadBson a k) cause p u = whole _ u.0 p u.1
+    known_stuck rose (faults.BadPrelude a) cause p u = whole _ u.0 p u.1
+    known_stuck rose (faults.BadHeader a) cause p u = whole _ u.0 p u.1
+    known_stuck rose (faults.AfterEnd n a) cause p u = whole _ u.0 p u.1
+    known_stuck rose (faults.DocsInEnd a) cause p u = whole _ u.0 p u.1
+    known_stuck rose (faults.Crc n a b) cause p u = whole _ u.0 p u.1
+    known_stuck rose (faults.NotEnded n) cause p u = whole _ u.0 p u.1
+    known_stuck rose faults.TooLong cause p u = whole _ u.0 p u.1
+
+  pub item_stuck : (first now : Option (List ℕ)) (rose : Type 0) (f : DemuxFault) → Stands first now s at held keep before old → length held ≤ 16793600 → (f ≡ faults.NoMemory → rose ⊎ AsksFirst s (take (limit - at) held))
+      → Stuck f (next s at (take (limit - at) held)) keep old new why → Fault_told f first now keep before new why rose
+  item_stuck None now rose f h room cause u = tt
+  item_stuck (Some all) None rose f h room cause u = absurd h.watch
+  item_stuck (Some all) (Some left) rose f h room cause u = known_stuck all left (Some left) h.given h.watch room refl rose f cause h.took u
+
+  pub far_told : (first now later : Option (List ℕ)) → Stands first now s at held keep before old → length held ≤ 16793600 → Keeps now later → next s at (take (limit - at) held) ≡ short → limit < at + length held → Took keep old new [] → Fault_told faults.TooLong first later keep before new why ⊥
+  far_told None now later h room k e far t = tt
+  far_told (Some all) None later h room k e far t = absurd h.watch
+  far_told (Some all) (Some left) None h room k e far t = absurd k
+  far_told (Some all) (Some left) (Some after) h room k e far t =
+      record { whole = record { given = h.given; ends = too_long all s at held left h.given h.watch e far; took = took_same h.given h.took t }; reach = reach all left (Some after) h.given h.watch room (ap Some k) }
 
   pub more_held : (first now later : Option (List ℕ)) (bs : List ℕ) → Stands first now s at held keep before old → Consumes now later bs → Took keep old new [] → Stands first later s at (held ++ bs) keep before new
   more_held None now later bs h c t = record { given = h.given; watch = tt; took = took_same h.given h.took t }
@@ -71,42 +89,67 @@ module _ (keep : Taking → Bool) (before old new : Option (List Taking)) (why :
   more_held (Some all) (Some left) None bs h c t = absurd c
   more_held (Some all) (Some left) (Some after) bs h c t = record { given = h.given; watch = filled all s at held bs left after h.given h.watch c; took = took_same h.given h.took t }
 
-  pub read_failed : (first now later : Option (List ℕ)) → Stands first now s at held keep before old → Took keep old new [] → Fault_told faults.ReadFault first keep before new why
-  read_failed None now later h t = tt
-  read_failed (Some all) None later h t = absurd h.watch
-  read_failed (Some all) (Some left) later h t = part all left h.given h.watch h.took t
+  pub read_failed : (first now later : Option (List ℕ)) → Stands first now s at held keep before old → length held ≤ 16793600 → Keeps now later → next s at held ≡ short → Took keep old new [] → Fault_told faults.ReadFault first later keep before new why ⊥
+  read_failed None now later h room k e t = tt
+  read_failed (Some all) None later h room k e t = absurd h.watch
+  read_failed (Some all) (Some left) None h room k e t = absurd k
+  read_failed (Some all) (Some left) (Some after) h room k e t = broken all left (Some after) h.given h.watch room (ap Some k) e h.took t
 
-  done_known : (all left : List ℕ) (e : Option DemuxFault) (given : List Taking) → Holds all s at held left given → next s at held ≡ short → at + length held ≤ limit → left ≡ [] → ending false s at held ≡ e → Took keep before old given → Took keep old new [] → Whole all e keep before new
+  abbrev done_known : (all left : List ℕ) (e : Option DemuxFault) (given : List Taking) → Holds all s at held left given → next s at held ≡ short → at + length held ≤ limit → left ≡ [] → ending false s at held ≡ e → Took keep before old given → Took keep old new [] → Whole all e keep before new
   done_known all left e given h x near none is p q = record { given = given; ends = subst (λ z. EndsOf all given z) is (ends_short all s at held left given h x near none); took = took_same given p q }
 
-  refused_told : (all : List ℕ) (f : DemuxFault) → Refused f (bad f) → Part all keep before new → Whole all (Some f) keep before new → Tells_fault f all keep before new why
-  refused_told all faults.NoMemory r p w = p
-  refused_told all faults.ReadFault r p w = p
-  refused_told all faults.Stopped r p w = absurd r
-  refused_told all faults.BadMagic r p w = w
-  refused_told all (faults.Truncated a) r p w = w
-  refused_told all (faults.BadBson a k) r p w = w
-  refused_told all (faults.BadPrelude a) r p w = w
-  refused_told all (faults.BadHeader a) r p w = w
-  refused_told all (faults.AfterEnd n a) r p w = w
-  refused_told all (faults.DocsInEnd a) r p w = w
-  refused_told all (faults.Crc n a b) r p w = w
-  refused_told all (faults.NotEnded n) r p w = w
-  refused_told all faults.TooLong r p w = w
+  refused_told : (all : List ℕ) (later : Option (List ℕ)) (f : DemuxFault) → Refused f (bad f) → (f ≡ faults.NoMemory → ⊥) → Wrong all later f keep before new → Tells_fault f all later keep before new why ⊥
+  refused_told all later faults.NoMemory r fed w = absurd (fed refl)
+  refused_told all later faults.ReadFault r fed w = absurd r
+  refused_told all later faults.Stopped r fed w = absurd r
+  refused_told all later faults.BadMagic r fed w = w
+  refused_told all later (faults.Truncated a) r fed w = w
+  refused_told all later (faults.BadBson a k) r fed w = w
+  refused_told all later (faults.BadPrelude a) r fed w = w
+  refused_told all later (faults.BadHeader a) r fed w = w
+  refused_told all later (faults.AfterEnd n a) r fed w = w
+  refused_told all later (faults.DocsInEnd a) r fed w = w
+  refused_told all later (faults.Crc n a b) r fed w = w
+  refused_told all later (faults.NotEnded n) r fed w = w
+  refused_told all later faults.TooLong r fed w = w
 
   -- the end of the input, behind less than an item
-  pub end_refused : (first now later : Option (List ℕ)) (f : DemuxFault) → Stands first now s at held keep before old → next s at held ≡ short → at + length held ≤ limit → Consumes now later [] → IsAtEnd later → ending false s at held ≡ Some f → Refused f (bad f) → Took keep old new [] → Fault_told f first keep before new why
-  end_refused None now later f h x near c z is r t = tt
-  end_refused (Some all) None later f h x near c z is r t = absurd h.watch
-  end_refused (Some all) (Some left) None f h x near c z is r t = absurd c
-  end_refused (Some all) (Some left) (Some after) f h x near c z is r t =
-      refused_told all f r (part all left h.given h.watch h.took t) (done_known all left (Some f) h.given h.watch x near (c ∙ z) is h.took t)
+  pub end_refused : (first now later : Option (List ℕ)) (f : DemuxFault) → Stands first now s at held keep before old → length held ≤ 16793600 → next s at held ≡ short → at + length held ≤ limit → Consumes now later [] → IsAtEnd later → ending false s at held ≡ Some f → Refused f (bad f) → (f ≡ faults.NoMemory → ⊥)
+      → Took keep old new [] → Fault_told f first later keep before new why ⊥
+  end_refused None now later f h room x near c z is r fed t = tt
+  end_refused (Some all) None later f h room x near c z is r fed t = absurd h.watch
+  end_refused (Some all) (Some left) None f h room x near c z is r fed t = absurd c
+  end_refused (Some all) (Some left) (Some after) f h room x near c z is r fed t =
+      refused_told all (Some after) f r fed (record { whole = done_known all left (Some f) h.given h.watch x near (c ∙ z) is h.took t; reach = reach all left (Some after) h.given h.watch room (ap Some (sym c)) })
 
   pub end_accepted : (first now later : Option (List ℕ)) → Stands first now s at held keep before old → next s at held ≡ short → at + length held ≤ limit → Consumes now later [] → IsAtEnd later → ending false s at held ≡ None → Took keep old new [] → End_told first later keep before new
   end_accepted None now later h x near c z is t = tt
   end_accepted (Some all) None later h x near c z is t = absurd h.watch
   end_accepted (Some all) (Some left) None h x near c z is t = absurd c
   end_accepted (Some all) (Some left) (Some after) h x near c z is t = (ap Some z, done_known all left None h.given h.watch x near (c ∙ z) is h.took t)
+
+any_rose : (f : DemuxFault) (all : List ℕ) (now : Option (List ℕ)) (keep : Taking → Bool) (before kept : Option (List Taking)) (why : Taking → Bool) (rose : Type 0) → Tells_fault f all now keep before kept why ⊥ → Tells_fault f all now keep before kept why rose
+any_rose faults.NoMemory all now keep before kept why rose t = record { part = t.part; cause = elim t.cause [ inl never ↦ absurd never | inr asks ↦ inr asks ] }
+any_rose faults.ReadFault all now keep before kept why rose t = t
+any_rose faults.Stopped all now keep before kept why rose t = t
+any_rose faults.BadMagic all now keep before kept why rose t = t
+any_rose (faults.Truncated a) all now keep before kept why rose t = t
+any_rose (faults.BadBson a k) all now keep before kept why rose t = t
+any_rose (faults.BadPrelude a) all now keep before kept why rose t = t
+any_rose (faults.BadHeader a) all now keep before kept why rose t = t
+any_rose (faults.AfterEnd n a) all now keep before kept why rose t = t
+any_rose (faults.DocsInEnd a) all now keep before kept why rose t = t
+any_rose (faults.Crc n a b) all now keep before kept why rose t = t
+any_rose (faults.NotEnded n) all now keep before kept why rose t = t
+any_rose faults.TooLong all now keep before kept why rose t = t
+
+-- what is told without want of memory holds whatever the taker found
+pub of_no_rose : (r : Result (Option ℕ) DemuxFault) (first now : Option (List ℕ)) (s : Stage) (held : List ℕ) (keep : Taking → Bool) (before kept : Option (List Taking)) (why : Taking → Bool) (rose : Type 0)
+    → Turns r first now s held keep before kept why ⊥ → Turns r first now s held keep before kept why rose
+of_no_rose (Ok (Some at)) first now s held keep before kept why rose t = t
+of_no_rose (Ok None) first now s held keep before kept why rose t = t
+of_no_rose (Err f) None now s held keep before kept why rose t = tt
+of_no_rose (Err f) (Some all) now s held keep before kept why rose t = any_rose f all now keep before kept why rose t
 
 pub item_size : (s : Stage) (at : ℕ) (held : List ℕ) (k : ℕ) (m : Stage) (one : List Taking) (n : ℕ) → next s at (take k held) ≡ onward m one n → (4 ≤ n) × (n ≤ length held) × (n ≤ k)
 item_size s at held k m one n e =

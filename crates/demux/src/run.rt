@@ -4,7 +4,7 @@ ghost use Rattle.std.specs.Io.KnownBytes.{Keeps};
 ghost use Rattle.tool_io.specs.Causes.{Rose};
 ghost use Rattle.archive_format.specs.Archive.{Taking, Seen as Entry, start, ending, open_of, limit, next, short};
 ghost use Rattle.demux.specs.Steps.{stage_of, Closes};
-ghost use Rattle.demux.specs.Told.{Ahead_told, Asked_told, Stands, Turns, Tells};
+ghost use Rattle.demux.specs.Told.{Stands, Turns, Tells};
 
 use crate::progress::Progress;
 use crate::seen::Seen;
@@ -72,10 +72,11 @@ fn more<S: Source>(
 ) -> Result<Option<u64>, DemuxFault>
     requires within { at ≤ limit }
     requires size { window.old.size ≡ 16793600 }
+    requires room { length window.old.bytes ≤ 16793600 }
     requires short { next (stage_of progress.old) at (take (limit - at) window.old.bytes) ≡ short }
     ensures room { OnOk result (length window.new.bytes ≤ 16793600) }
     ensures turns { (first : Option (List ℕ)) (keep why : Taking → Bool) (before kept : Option (List Taking)) → Stands first (S.left source.old) (stage_of progress.old) at window.old.bytes keep before kept
-        → Turns result first (S.left source.new) (stage_of progress.new) window.new.bytes keep before kept why }
+        → Turns result first (S.left source.new) (stage_of progress.new) window.new.bytes keep before kept why ⊥ }
     ensures size { window.new.size ≡ window.old.size }
     ensures on { IfOk result (λ r. IfSome r (λ b. (b ≡ at) × (length window.old.bytes < length window.new.bytes))) }
     ensures read_fault { IsErrOf result DemuxFault.ReadFault → Rose (S.faults source.old) (S.faults source.new) }
@@ -112,16 +113,13 @@ fn turn<S: Source, T: DocTaker>(
     requires room { length window.old.bytes ≤ 16793600 }
     ensures room { OnOk result (length window.new.bytes ≤ 16793600) }
     ensures turns { (first : Option (List ℕ)) (before : Option (List Taking)) → Stands first (S.left source.old) (stage_of progress.old) at window.old.bytes (T.keeps taker.old) before (T.kept taker.old)
-        → Turns result first (S.left source.new) (stage_of progress.new) window.new.bytes (T.keeps taker.old) before (T.kept taker.new) (T.halted taker.new) }
+        → Turns result first (S.left source.new) (stage_of progress.new) window.new.bytes (T.keeps taker.old) before (T.kept taker.new) (T.halted taker.new) (Rose (T.starved taker.old) (T.starved taker.new)) }
     ensures same { T.keeps taker.new ≡ T.keeps taker.old }
     ensures size { window.new.size ≡ window.old.size }
     ensures on { IfOk result (λ r. IfSome r (λ b. (b ≤ limit) × (at + (at + length window.old.bytes) < b + (b + length window.new.bytes)))) }
     ensures fresh { OnOk result ((T.stops taker.new ≡ 0) × (T.starved taker.new ≡ 0)) }
     ensures read_fault { IsErrOf result DemuxFault.ReadFault → Rose (S.faults source.old) (S.faults source.new) }
-    ensures still { OnErr result (Keeps (S.left source.old) (S.left source.new)) }
     ensures stopped { IsErrOf result DemuxFault.Stopped → Rose (T.stops taker.old) (T.stops taker.new) }
-    ensures starved { (first : Option (List ℕ)) (keep : Taking → Bool) (before kept : Option (List Taking)) → Stands first (S.left source.old) (stage_of progress.old) at window.old.bytes keep before kept
-        → IsErrOf result DemuxFault.NoMemory → Rose (T.starved taker.old) (T.starved taker.new) ⊎ Asked_told first }
     ensures later { S.faults source.old ≤ S.faults source.new }
 {
     match progress.item(at, within(window.held(), LIMIT - at), taker) {
@@ -165,11 +163,9 @@ impl Demux {
         taker: &mut T,
     ) -> Result<(), DemuxFault>
         requires fresh { (T.stops taker.old ≡ 0) × (T.starved taker.old ≡ 0) }
-        ensures told { Tells result (S.left source.old) (S.left source.new) (T.keeps taker.old) (T.kept taker.old) (T.kept taker.new) (T.halted taker.new) }
-        ensures ahead { OnErr result (Ahead_told (S.left source.old) (S.left source.new)) }
+        ensures told { Tells result (S.left source.old) (S.left source.new) (T.keeps taker.old) (T.kept taker.old) (T.kept taker.new) (T.halted taker.new) (Rose 0 (T.starved taker.new)) }
         ensures read_fault { IsErrOf result DemuxFault.ReadFault → Rose (S.faults source.old) (S.faults source.new) }
         ensures stopped { IsErrOf result DemuxFault.Stopped → Rose 0 (T.stops taker.new) }
-        ensures starved { IsErrOf result DemuxFault.NoMemory → Rose 0 (T.starved taker.new) ⊎ Asked_told (S.left source.old) }
         ensures fresh { OnOk result ((T.stops taker.new ≡ 0) × (T.starved taker.new ≡ 0)) }
         ensures same { T.keeps taker.new ≡ T.keeps taker.old }
         ensures later { S.faults source.old ≤ S.faults source.new }

@@ -5,13 +5,14 @@ use Rattle.std.specs.Io.KnownBytes.{Consumes}
 use Rattle.archive_format.specs.Archive.{limit, next, short, ending}
 use Rattle.demux.specs.Held.{Fills}
 use Rattle.demux.specs.Steps.{stage_of}
+use Rattle.demux.proofs.Begin.{keeps_same}
 use Rattle.demux.proofs.Takings.{took_none}
 use Rattle.demux.proofs.Turn.{far_told, read_failed, end_refused, end_accepted, short_fits}
 use Rattle.demux.proofs.run.more.Goals as goal
 
 pub returns-then-at-seen-clause-turns : goal.returns-then-at-seen-clause-turns
 returns-then-at-seen-clause-turns g c = λ first keep why before kept h.
-    far_told keep before kept kept why (stage_of c.args.progress.now) c.args.at c.args.window.now.bytes first (g.S.Source.left c.args.source.now) h c.requires.short (omega (arith, ap length c.held.ensures.bytes)) (took_none keep kept)
+    far_told keep before kept kept why (stage_of c.args.progress.now) c.args.at c.args.window.now.bytes first (g.S.Source.left c.args.source.now) (g.S.Source.left c.args.source.now) h c.requires.room (keeps_same (g.S.Source.left c.args.source.now)) c.requires.short (omega (arith, ap length c.held.ensures.bytes)) (took_none keep kept)
 
 pub fill-requires : goal.fill-requires
 fill-requires g c =
@@ -22,7 +23,10 @@ fill-requires g c =
 
 pub returns-in-Err-clause-turns : goal.returns-in-Err-clause-turns
 returns-in-Err-clause-turns g c = λ first keep why before kept h.
-    read_failed keep before kept kept why (stage_of c.args.progress.now) c.args.at c.args.window.now.bytes first (g.S.Source.left c.args.source.now) (g.S.Source.left c.args.source.now) h (took_none keep kept)
+    let s = stage_of c.args.progress.now in
+    let b = c.args.window.now.bytes in
+    let all : take (limit - c.args.at) b ≡ b = take_all (limit - c.args.at) b (omega (arith, ap length c.held.ensures.bytes)) in
+    read_failed keep before kept kept why s c.args.at b first (g.S.Source.left c.args.source.now) (g.S.Source.left c.fill.new.source) h c.requires.room c.in-Err.ensures.kept.1 (subst (λ y. next s c.args.at y ≡ short) all c.requires.short) (took_none keep kept)
 
 none_read : {b after : List ℕ} {left now : Option (List ℕ)} (n : ℕ) → n ≡ 0 → Fills b after n left now → (after ≡ b) × Consumes left now []
 none_read {b} {after} {left} {now} n z f =
@@ -54,5 +58,5 @@ returns-in-Err-ending-clause-turns g c = λ first keep why before kept h.
     let all : take (limit - at) b ≡ b = take_all (limit - at) b (omega (arith, ap length c.held.ensures.bytes)) in
     let near : at + length b ≤ limit = omega (arith, ap length c.held.ensures.bytes) in
     let same : c.held-in-Ok-eq0.result.now ≡ b = c.held-in-Ok-eq0.ensures.bytes ∙ n.0 in
-    end_refused keep before kept kept why s at b first (g.S.Source.left c.args.source.now) (g.S.Source.left c.fill.new.source) c.in-Err-ending.fault h (subst (λ y. next s at y ≡ short) all c.requires.short) near n.1 (f.ended z)
-    (subst (λ y. ending false s at y ≡ Some c.in-Err-ending.fault) same c.in-Err-ending.ensures.closes.0) c.in-Err-ending.ensures.closes.1 (took_none keep kept)
+    end_refused keep before kept kept why s at b first (g.S.Source.left c.args.source.now) (g.S.Source.left c.fill.new.source) c.in-Err-ending.fault h c.requires.room (subst (λ y. next s at y ≡ short) all c.requires.short) near n.1 (f.ended z)
+    (subst (λ y. ending false s at y ≡ Some c.in-Err-ending.fault) same c.in-Err-ending.ensures.closes.0) c.in-Err-ending.ensures.closes.1 c.in-Err-ending.ensures.fed (took_none keep kept)

@@ -1,9 +1,10 @@
-use Rattle.std.proofs.Common.{◌≡◌, ◌-◌, take, inl, inr, sym, ap, subst, ◌∙◌, arith}
+use Rattle.std.proofs.Common.{Err, ◌≡◌, ◌-◌, take, inl, inr, sym, ap, subst, ◌∙◌, arith}
 use Rattle.std.proofs.lemmas.List.{length-drop}
-use Rattle.archive_format.specs.Archive.{limit, next}
+use Rattle.tool_io.specs.Causes.{Rose}
+use Rattle.archive_format.specs.Archive.{Stage, limit, next}
 use Rattle.demux.specs.Steps.{stage_of, Stuck, AsksFirst}
-use Rattle.demux.proofs.Turn.{item_size, item_taken, item_stuck}
-use Rattle.demux.proofs.Begin.{asked}
+use Rattle.demux.specs.Told.{Stands}
+use Rattle.demux.proofs.Turn.{item_size, item_taken, item_stuck, stands_kept, of_no_rose}
 use Rattle.demux.proofs.run.turn.Goals as goal
 
 pub skip-requires : goal.skip-requires
@@ -26,7 +27,9 @@ returns-in-Err-clause-turns g c = λ first before h.
     let old = g.T.DocTaker.kept c.args.taker.now in
     let new = g.T.DocTaker.kept c.item.new.taker in
     let w : c.within.result.now ≡ take (limit - c.args.at) c.args.window.now.bytes = c.within.ensures ∙ ap (take (limit - c.args.at)) c.held.ensures.bytes in
-    item_stuck keep before old new (g.T.DocTaker.halted c.item.new.taker) s c.args.at c.args.window.now.bytes first (g.S.Source.left c.args.source.now) c.in-Err.fault h (subst (λ y. Stuck c.in-Err.fault (next s c.args.at y) keep old new (g.T.DocTaker.halted c.item.new.taker)) w c.in-Err.ensures.turned)
+    item_stuck keep before old new (g.T.DocTaker.halted c.item.new.taker) s c.args.at c.args.window.now.bytes first (g.S.Source.left c.args.source.now) (Rose (g.T.DocTaker.starved c.args.taker.now) (g.T.DocTaker.starved c.item.new.taker)) c.in-Err.fault h c.requires.room
+    (λ e. elim (c.in-Err.ensures.starved (ap Err e)) [ inl rose ↦ inl rose | inr asks ↦ inr (subst (AsksFirst s) w asks) ])
+    (subst (λ y. Stuck c.in-Err.fault (next s c.args.at y) keep old new (g.T.DocTaker.halted c.item.new.taker)) w c.in-Err.ensures.turned)
 
 pub returns-in-Ok-Some-clause-turns : goal.returns-in-Ok-Some-clause-turns
 returns-in-Ok-Some-clause-turns g c = λ first before h.
@@ -47,11 +50,16 @@ returns-in-Ok-Some-clause-on g c =
     let d = length-drop c.in-Ok-Some.size c.args.window.now.bytes in
     rw c.skip.ensures (omega (arith, k.0, k.2, d), omega (arith, k.0, k.1, d))
 
-pub returns-in-Err-clause-starved : goal.returns-in-Err-clause-starved
-returns-in-Err-clause-starved g c = λ first keep before kept h e.
+pub returns-in-Ok-None-clause-turns : goal.returns-in-Ok-None-clause-turns
+returns-in-Ok-None-clause-turns g c = λ first before h.
     let s = stage_of c.args.progress.now in
-    let w : c.within.result.now ≡ take (limit - c.args.at) c.args.window.now.bytes = c.within.ensures ∙ ap (take (limit - c.args.at)) c.held.ensures.bytes in
-    elim (c.in-Err.ensures.starved e) [
-      | inl rose ↦ inl rose
-      | inr asks ↦ inr (asked first (g.S.Source.left c.args.source.now) s c.args.at (limit - c.args.at) c.args.window.now.bytes keep before kept h (subst (AsksFirst s) w asks))
-    ]
+    let keep = g.T.DocTaker.keeps c.args.taker.now in
+    let old = g.T.DocTaker.kept c.args.taker.now in
+    let new = g.T.DocTaker.kept c.item.new.taker in
+    let why = g.T.DocTaker.halted c.item.new.taker in
+    let left = g.S.Source.left c.args.source.now in
+    let held = c.args.window.now.bytes in
+    let u = rw c.in-Ok-None.field-0-is at c.in-Ok-None.ensures.turned in
+    let kept = subst (λ (z : Stage). Stands first left z c.args.at held keep before new) (sym u.1) (stands_kept keep before old new why s c.args.at held first left h u.2) in
+    of_no_rose c.more.result first (g.S.Source.left c.more.new.source) (stage_of c.more.new.progress) c.more.new.window.bytes keep before new why (Rose (g.T.DocTaker.starved c.args.taker.now) (g.T.DocTaker.starved c.item.new.taker))
+    (c.more.ensures.turns first keep why before new kept)
