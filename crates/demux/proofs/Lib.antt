@@ -1,5 +1,6 @@
 pub mod Takings
-pub mod Seats
+pub mod Names
+mod Seats
 pub mod Buffers
 pub mod Begin
 pub mod Turn

@@ -1,12 +1,16 @@
 -- An entry of the namespaces that headers named, before and after a write.
-use Rattle.std.proofs.Common.{◌≡◌, ℕ, ◌<◌, List, length, refl, sym, get_or, set, length-set, drop, drop-cons, false}
+use Rattle.std.proofs.Common.{◌≡◌, ℕ, ◌<◌, List, length, refl, sym, inl, inr, arith, get_or, set, length-set, drop, drop-cons, false}
 use Rattle.std.specs.Prelude.{Some, slice_get, Option}
-use Rattle.std.proofs.lemmas.Option.{slice_get_read}
+use Rattle.std.proofs.lemmas.Option.{slice_get_read, slice_get_cases}
 use Rattle.std.proofs.lemmas.List.{get_or-set_same}
 use Rattle.std.proofs.lemmas.Bool.{eq-eqb}
 use Rattle.archive_format.specs.Crc.{crc_end}
 use Rattle.archive_format.specs.Archive.{Seen, Stage, closed_entry, end_step, open_of}
 use Rattle.archive_format.specs.declared.fault.DemuxFault.TheVariants.{NotEnded}
+
+-- an entry that is there
+pub seat_there : (es : List Seen) (i : ℕ) → i < length es → (e : Seen) × (slice_get es i ≡ Some e)
+seat_there es i le = elim (slice_get_cases es i).1 [ inl h ↦ (h.0, h.2) | inr h ↦ absurd (omega (arith, h.0, le)) ]
 
 pub there : (es : List Seen) (i : ℕ) (e : Seen) → i < length es → e ≡ get_or es i e → slice_get es i ≡ Some e
 there es i e le is = slice_get_read es (length es) i e refl le is

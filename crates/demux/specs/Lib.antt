@@ -1,4 +1,5 @@
 pub mod Held
+pub mod Names
 pub mod Steps
 pub mod Takes
 pub mod Told

@@ -10,7 +10,7 @@ use Rattle.demux.specs.Takes.{Took}
 use Rattle.demux.specs.declared.progress.Progress.{Progress}
 
 abbrev pub stage_of : Progress → Stage
-stage_of p = record { place = p.place; metas = p.metas.items; seen = p.seen.items }
+stage_of p = record { place = p.place; metas = p.metas; seen = p.seen }
 
 -- the fault is that of bytes that are no document of BSON, or want of memory
 abbrev pub Unread : DemuxFault → ℕ → Option BsonFault → Type 0

@@ -40,7 +40,7 @@ impl Progress {
         taker: &mut T,
     ) -> Result<(), DemuxFault>
         requires fresh { (T.stops taker.old ≡ 0) × (T.starved taker.old ≡ 0) }
-        ensures steps { Stepped result (stage_of self.new) (sound at (doc_step (stage_of self.old) at i bytes.now (slice_get self.old.seen.items i)) (fault_in bytes.now)) (T.keeps taker.old) (T.kept taker.old) (T.kept taker.new) (T.halted taker.new) }
+        ensures steps { Stepped result (stage_of self.new) (sound at (doc_step (stage_of self.old) at i bytes.now (slice_get self.old.seen i)) (fault_in bytes.now)) (T.keeps taker.old) (T.kept taker.old) (T.kept taker.new) (T.halted taker.new) }
         ensures same { T.keeps taker.new ≡ T.keeps taker.old }
         ensures fresh { OnOk result ((T.stops taker.new ≡ 0) × (T.starved taker.new ≡ 0)) }
         ensures stopped { IsErrOf result DemuxFault.Stopped → Rose (T.stops taker.old) (T.stops taker.new) }
@@ -66,7 +66,7 @@ impl Progress {
         taker: &mut T,
     ) -> Result<(), DemuxFault>
         requires fresh { (T.stops taker.old ≡ 0) × (T.starved taker.old ≡ 0) }
-        ensures steps { Stepped result (stage_of self.new) (end_step (stage_of self.old) at i said (slice_get self.old.seen.items i)) (T.keeps taker.old) (T.kept taker.old) (T.kept taker.new) (T.halted taker.new) }
+        ensures steps { Stepped result (stage_of self.new) (end_step (stage_of self.old) at i said (slice_get self.old.seen i)) (T.keeps taker.old) (T.kept taker.old) (T.kept taker.new) (T.halted taker.new) }
         ensures same { T.keeps taker.new ≡ T.keeps taker.old }
         ensures fresh { OnOk result ((T.stops taker.new ≡ 0) × (T.starved taker.new ≡ 0)) }
         ensures stopped { IsErrOf result DemuxFault.Stopped → Rose (T.stops taker.old) (T.stops taker.new) }

@@ -2,7 +2,10 @@
 #![tactic(auto)]
 
 mod documents;
+mod index;
 mod items;
+mod metas;
+mod namespaces;
 mod progress;
 mod run;
 mod seen;

@@ -6,6 +6,8 @@ ghost use Rattle.archive_format.specs.Archive.{Taking, Seen as Entry, start, end
 ghost use Rattle.demux.specs.Steps.{stage_of, Closes};
 ghost use Rattle.demux.specs.Told.{Stands, Turns, Tells};
 
+use crate::metas::Metas;
+use crate::namespaces::Namespaces;
 use crate::progress::Progress;
 use crate::seen::Seen;
 use crate::taker::DocTaker;
@@ -37,10 +39,10 @@ fn ending(progress: &mut Progress, at: u64, held: &[u8]) -> Result<(), DemuxFaul
     ensures fed { IfErr result (λ f. f ≡ DemuxFault.NoMemory → ⊥) }
 {
     if held.is_empty() && matches!(progress.place, Place::Blocks) {
-        return match first_open(&progress.seen) {
+        return match first_open(progress.seen.as_slice()) {
             None => Ok(()),
             Some(i) => Err(DemuxFault::NotEnded {
-                ns: progress.seen.swap_remove(i).into_ns(),
+                ns: progress.seen.take_name(i),
             }),
         };
     }
@@ -150,8 +152,8 @@ impl Demux {
             progress: Progress {
                 alloc,
                 place: Place::Front,
-                metas: Vec::new(alloc),
-                seen: Vec::new(alloc),
+                metas: Metas::new(alloc),
+                seen: Namespaces::new(alloc),
             },
         })
     }

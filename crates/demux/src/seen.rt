@@ -1,8 +1,6 @@
 //! A namespace that a header named.
 ghost use Rattle.std.specs.Prelude.{◌≡◌, true, false};
 ghost use Rattle.archive_format.specs.Crc.{crc_start, crc_on, crc_end};
-ghost use Rattle.archive_format.specs.Shapes.{named};
-ghost use Rattle.archive_format.specs.Archive.{same_ns};
 
 use archive_blocks::Crc;
 use bson_value::NsName;
@@ -46,12 +44,6 @@ impl Seen {
         ensures { result ≡ self.ns }
     {
         self.ns
-    }
-
-    pub fn is(&self, db: &str, coll: &str) -> bool
-        ensures { result ≡ same_ns self.now.ns (named db.now coll.now) }
-    {
-        self.ns.db.as_str() == db && self.ns.coll.as_str() == coll
     }
 
     pub fn has_ended(&self) -> bool

@@ -2,17 +2,16 @@
 ghost use Rattle.std.specs.Prelude.{◌≡◌, ◌∷◌, [], true, Some, ◌<◌, length, is_some, None, IsErrOf, IfErr, IfSome, OnOk, slice_get, option_map};
 ghost use Rattle.std.specs.Option.{option_copied};
 ghost use Rattle.archive_format.specs.Shapes.{named, is_oplog};
-ghost use Rattle.archive_format.specs.Archive.{Seen as Entry, goes, closed_entry, magic, document, step_at, sound, header_step, meta_step, head_step, doc_step, end_step, early, lengthy, size_of, number, is_stop, is_magic, same_ns, meta_place, seat_of, bad, opened, opened_entry, behind, header_in, metadata_in, head_in, fault_in, IsNew, doc, end};
+ghost use Rattle.archive_format.specs.Archive.{Seen as Entry, goes, closed_entry, magic, document, step_at, sound, header_step, meta_step, head_step, doc_step, end_step, early, lengthy, size_of, number, is_stop, is_magic, meta_place, seat_of, bad, opened, opened_entry, behind, header_in, metadata_in, head_in, fault_in, IsNew, doc, end};
 ghost use Rattle.demux.specs.Steps.{stage_of, Quiet, Refused, Notes, Names};
 
 use crate::documents::{checked, head, is_header, metadata};
 use crate::progress::Progress;
-use crate::seen::Seen;
 use crate::taker::Halt;
 use archive_format::{DemuxFault, Place};
 use archive_prelude::Meta;
 use bson_check::BsonKind;
-use bson_value::{NsName, Text};
+use bson_value::NsName;
 
 const MAGIC: [u8; 4] = [0x6d, 0xe2, 0x99, 0x81];
 
@@ -128,29 +127,10 @@ pub fn halted(halt: Halt) -> DemuxFault
     }
 }
 
-fn same_ns(a: &NsName, b: &NsName) -> bool
-    ensures { result ≡ same_ns a.now b.now }
-{
-    a.db.as_str() == b.db.as_str() && a.coll.as_str() == b.coll.as_str()
-}
-
 fn is_oplog(ns: &NsName) -> bool
     ensures { result ≡ is_oplog ns.now }
 {
     ns.db.as_str() == "" && ns.coll.as_str() == "oplog"
-}
-
-fn meta_place(ns: &NsName, metas: &[NsName]) -> Option<usize>
-    ensures { result ≡ meta_place ns.now metas.now }
-{
-    metas.iter().position(|m| same_ns(m, ns))
-}
-
-fn seat_of(db: &str, coll: &str, seen: &[Seen]) -> Option<usize>
-    ensures seat { result ≡ seat_of (named db.now coll.now) seen.now }
-    ensures within { IfSome result (λ i. i < length seen.now) }
-{
-    seen.iter().position(|e| e.is(db, coll))
 }
 
 fn behind(eof: bool, crc: Option<i64>, i: usize) -> Place
@@ -210,10 +190,10 @@ impl Progress {
                 if is_oplog(&meta.ns) {
                     return Ok(None);
                 }
-                if meta_place(&meta.ns, &self.metas).is_some() {
+                if self.metas.contains(&meta.ns) {
                     return Err(DemuxFault::BadPrelude { at });
                 }
-                self.metas.push(meta.ns.copy(self.alloc)?)?;
+                self.metas.push(&meta.ns)?;
                 Ok(Some(meta))
             }
         }
@@ -227,7 +207,7 @@ impl Progress {
         match head(at, bytes) {
             Err(fault) => Err(fault),
             Ok(None) => Err(DemuxFault::BadHeader { at }),
-            Ok(Some(head)) => match seat_of(head.db, head.coll, &self.seen) {
+            Ok(Some(head)) => match self.seen.seat_of(head.db, head.coll) {
                 None => self.new_seat(head.db, head.coll, head.eof, head.crc),
                 Some(i) => self.old_seat(at, i, behind(head.eof, head.crc, i)),
             },
@@ -241,36 +221,35 @@ impl Progress {
         eof: bool,
         crc: Option<i64>,
     ) -> Result<(), DemuxFault>
+        requires { seat_of (named db.now coll.now) self.old.seen ≡ None }
         ensures { Quiet result (stage_of self.new) (opened (stage_of self.old) 0 (record { ns = named db.now coll.now; eof = eof; crc = crc }) None) }
     {
         let i = self.seen.len();
-        let ns = NsName {
-            db: Text::of(self.alloc, db)?,
-            coll: Text::of(self.alloc, coll)?,
-        };
-        self.seen.push(Seen::new(ns))?;
+        self.seen.push(db, coll)?;
         self.place = behind(eof, crc, i);
         Ok(())
     }
 
     fn old_seat(&mut self, at: u64, i: usize, next: Place) -> Result<(), DemuxFault>
-        requires { i < length self.old.seen.items }
-        ensures steps { Quiet result (stage_of self.new) (opened_entry (stage_of self.old) at next (slice_get self.old.seen.items i)) }
+        ensures steps { Quiet result (stage_of self.new) (opened_entry (stage_of self.old) at next (slice_get self.old.seen i)) }
         ensures fed { IfErr result (λ f. f ≡ DemuxFault.NoMemory → ⊥) }
     {
-        if self.seen[i].has_ended() {
-            return Err(DemuxFault::AfterEnd {
-                ns: self.seen.swap_remove(i).into_ns(),
+        match self.seen.get(i) {
+            None => Err(DemuxFault::BadHeader { at }),
+            Some(entry) if entry.has_ended() => Err(DemuxFault::AfterEnd {
+                ns: self.seen.take_name(i),
                 at,
-            });
+            }),
+            Some(_) => {
+                self.place = next;
+                Ok(())
+            }
         }
-        self.place = next;
-        Ok(())
     }
 
     #[tactic(auto, unfolding(archive_format::specs::Archive::doc_step))]
     pub fn add_document(&mut self, at: u64, i: usize, bytes: &[u8]) -> Result<(), DemuxFault>
-        ensures names { Names result (stage_of self.new) (sound at (doc_step (stage_of self.old) at i bytes.now (slice_get self.old.seen.items i)) (fault_in bytes.now)) i (λ n. doc n bytes.now) }
+        ensures names { Names result (stage_of self.new) (sound at (doc_step (stage_of self.old) at i bytes.now (slice_get self.old.seen i)) (fault_in bytes.now)) i (λ n. doc n bytes.now) }
         ensures document { OnOk result (fault_in bytes.now ≡ None) }
         ensures fed { IfErr result (λ f. f ≡ DemuxFault.NoMemory → ⊥) }
     {
@@ -280,32 +259,32 @@ impl Progress {
                 if self.seen.len() <= i {
                     return Err(DemuxFault::BadHeader { at });
                 }
-                self.seen[i].add(bytes);
+                self.seen.add(i, bytes);
                 Ok(())
             }
         }
     }
 
     fn close(&mut self, i: usize)
-        requires { i < length self.old.seen.items }
-        ensures { (e : Entry) → slice_get self.old.seen.items i ≡ Some e → (closed_entry (stage_of self.old) i e ≡ goes (stage_of self.new) (end e.ns ∷ [])) × (slice_get self.new.seen.items i ≡ Some (record e { ended = true })) }
+        requires { i < length self.old.seen }
+        ensures { (e : Entry) → slice_get self.old.seen i ≡ Some e → (closed_entry (stage_of self.old) i e ≡ goes (stage_of self.new) (end e.ns ∷ [])) × (slice_get self.new.seen i ≡ Some (record e { ended = true })) }
     {
-        self.seen[i].end();
+        self.seen.end(i);
         self.place = Place::Blocks;
     }
 
     #[tactic(auto, unfolding(archive_format::specs::Archive::end_step))]
     pub fn mark_ended(&mut self, at: u64, i: usize, said: Option<u64>) -> Result<(), DemuxFault>
-        ensures names { Names result (stage_of self.new) (end_step (stage_of self.old) at i said (slice_get self.old.seen.items i)) i (λ n. end n) }
+        ensures names { Names result (stage_of self.new) (end_step (stage_of self.old) at i said (slice_get self.old.seen i)) i (λ n. end n) }
         ensures fed { IfErr result (λ f. f ≡ DemuxFault.NoMemory → ⊥) }
     {
-        if self.seen.len() <= i {
+        let Some(entry) = self.seen.get(i) else {
             return Err(DemuxFault::BadHeader { at });
-        }
-        let found = self.seen[i].sum();
+        };
+        let found = entry.sum();
         match said {
             Some(said) if said != found => Err(DemuxFault::Crc {
-                ns: self.seen.swap_remove(i).into_ns(),
+                ns: self.seen.take_name(i),
                 said,
                 found,
             }),
@@ -322,7 +301,7 @@ impl Progress {
 
     /// The name of the namespace with this number.
     pub fn name_of(&self, i: usize) -> Option<&NsName>
-        ensures { option_copied result ≡ option_map (λ e. e.ns) (slice_get self.now.seen.items i) }
+        ensures { option_copied result ≡ option_map (λ e. e.ns) (slice_get self.now.seen i) }
     {
         self.seen.get(i).map(|e| e.ns())
     }
