@@ -127,7 +127,7 @@ fn in_any_order(end: usize, body: &[u8], left: usize) -> Option<usize>
 }
 
 // Names that aren't above all before them are looked for name by name, as often as this.
-const FEW: u32 = 4;
+const FEW: u32 = 1;
 
 /// The first name that stands before it too, by its place, among the elements before the last `left` bytes.
 ///

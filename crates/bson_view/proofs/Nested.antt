@@ -1,6 +1,6 @@
 -- A document in another one.
-use Rattle.std.proofs.Common.{◌≡◌, ℕ, ◌-◌, ◌<◌, ◌≤◌, ◌^◌, List, ◌++◌, length, take, drop, Ok, Err, refl, sym, ap, subst, ◌∙◌, arith}
-use Rattle.std.specs.Prelude.{Option, Some, None, IsTrue}
+use Rattle.std.proofs.Common.{◌≡◌, ℕ, ◌-◌, ◌<◌, ◌≤◌, ◌^◌, List, length, drop, Ok, Err, refl, sym, ap, subst, ◌∙◌, arith}
+use Rattle.std.specs.Prelude.{Some, IsTrue}
 use Rattle.std.proofs.lemmas.List.{length-append, length-take, length-drop}
 use Rattle.bson_value.specs.declared.value.Value.{Value, out-Value, roll-Value, roll-out-Value}
 use Rattle.bson_value.specs.declared.value.Value.TheOpen.{Value-F}

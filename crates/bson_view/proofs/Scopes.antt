@@ -1,14 +1,13 @@
 -- The parts of a code with a scope.
-use Rattle.std.proofs.Common.{◌≡◌, ℕ, ◌+◌, ◌-◌, ◌<◌, ◌≤◌, List, [], ◌∷◌, ◌++◌, length, take, drop, refl, sym, ap, subst, ◌∙◌, append_assoc, arith}
+use Rattle.std.proofs.Common.{◌≡◌, ℕ, ◌+◌, ◌-◌, ◌≤◌, List, ◌++◌, length, take, drop, sym, ap, subst, ◌∙◌, arith}
 use Rattle.std.specs.Prelude.{IsTrue}
 use Rattle.std.proofs.lemmas.List.{take_at, take_all, drop_at, length-append, length-take, length-drop}
-use Rattle.bson_value.specs.Spelling.{text_bytes}
 use Rattle.bson_value.specs.declared.value.Value.{Value, out-Value}
 use Rattle.bson_value.specs.declared.value.Value.TheOpen.{Value-F}
 use Rattle.bson_check.specs.Passing.{jump}
-use Rattle.bson_check.specs.Spells.{IsFrame, IsString, AreBytesOf, IsDocument, IsArray, type_byte}
+use Rattle.bson_check.specs.Spells.{IsString, AreBytesOf, IsDocument, IsArray, type_byte}
 use Rattle.bson_view.specs.Meaning.{AreBytes, is_value, value_in}
-use Rattle.bson_view.specs.Parts.{Part, fields_of, bytes_of, elements_in, AreScopedParts, HasElements}
+use Rattle.bson_view.specs.Parts.{bytes_of, elements_in, AreScopedParts, HasElements}
 use Rattle.bson_view.proofs.Jumps.{jump_over}
 use Rattle.bson_view.proofs.Leaves.{string_back}
 use Rattle.bson_view.proofs.Meanings.{checked_value}

@@ -95,7 +95,7 @@ fn more<S: Source>(
         Err(_) => Err(DemuxFault::ReadFault),
         Ok(0) => match ending(progress, at, window.held()) {
             Ok(()) => Ok(None),
-            Err(fault) => Err(fault),
+            Err(end) => Err(end),
         },
         Ok(_) => Ok(Some(at)),
     }

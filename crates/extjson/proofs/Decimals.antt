@@ -1,12 +1,12 @@
 -- Decimal numbers are numbers of JSON.
-use Rattle.std.proofs.Common.{◌≡◌, ◌≢◌, ℕ, ◌<◌, ◌^◌, true, false, eqb, ltb, leb, List, [], ◌∷◌, ◌++◌, length, refl, sym, ap, ◌∙◌, inl, inr, arith}
+use Rattle.std.proofs.Common.{◌≡◌, ℕ, ◌<◌, ◌^◌, true, eqb, ltb, leb, List, [], ◌∷◌, length, refl, sym, inl, inr, arith}
 use Rattle.std.specs.Prelude.{codes}
 use Rattle.std.specs.Fmt.{decimal}
 use Rattle.std.specs.List.{list_all}
 use Rattle.std.specs.Char.{is_ascii_digit}
 use Rattle.std.proofs.lemmas.Bool.{cases_Bool, eqb-true, eq-eqb, and_parts, lt-ltb, leb-true}
 use Rattle.std.proofs.lemmas.List.{append-nil, nil_from_length}
-use Rattle.json_tree.specs.Numbers.{is_digit, AreDigits, IsWhole, IsNumber}
+use Rattle.json_tree.specs.Numbers.{is_digit, IsWhole, IsNumber}
 use Rattle.extjson.specs.Numbers.{is_natural}
 use Rattle.extjson.proofs.Wholes.{natural_digits}
 use Rattle.extjson.proofs.ReadBack.{natural_decimal}

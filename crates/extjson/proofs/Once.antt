@@ -1,13 +1,11 @@
 -- Plain numbers become wrappers once: the tree with wrappers stays as it is.
 use Rattle.std.proofs.Common.{◌≡◌, ℕ, List, [], ◌∷◌, map, Bool as Truth, true, false, cond, Option, Some, None, Ok, Err, refl, sym, ap, ◌∙◌, subst, inl, inr}
 use Rattle.std.specs.Prelude.{ℤ, codes, is_ok, if◌then◌else◌}
-use Rattle.std.specs.List.{list_any}
 use Rattle.std.specs.Str.{bytes_eq}
 use Rattle.std.proofs.lemmas.Bool.{cases_Bool}
-use Rattle.containers.specs.Entries.{lookup}
 use Rattle.bson_value.specs.declared.value.Value.{Value}
 use Rattle.bson_value.specs.declared.value.Value.TheVariants as values
-use Rattle.json_tree.specs.declared.tree.Tree.{Tree, Tree-F, out-Tree, roll-Tree, out-roll-Tree, roll-out-Tree, map-Tree, ind-Tree}
+use Rattle.json_tree.specs.declared.tree.Tree.{Tree, Tree-F, out-Tree, roll-Tree, roll-out-Tree, map-Tree, ind-Tree}
 use Rattle.json_tree.specs.declared.tree.Tree.TheVariants as trees
 use Rattle.extjson.specs.declared.wrapper.Wrapper.{Wrapper}
 use Rattle.extjson.specs.declared.wrapper.Wrapper.TheVariants as wrappers
@@ -16,8 +14,8 @@ use Rattle.extjson.specs.Numbers.{is_whole, whole_number, in_range}
 use Rattle.extjson.specs.Trees.{int_tree, long_tree}
 use Rattle.extjson.specs.declared.fault.ExtFault.{ExtFault}
 use Rattle.extjson.specs.declared.fault.ExtFault.TheVariants as faults
-use Rattle.extjson.specs.Values.{◌>>=◌, Read, whole, counted, number_at, number_of, members_at, members_of, both, either_way, stamp_value, key_value, plain_value, whole_value, int_or, long_or}
-use Rattle.extjson.specs.Plain.{is_told, has_plain_parts, tree_or, number_tree, wrapped_numbers, wrapped_items, wrapped_fields}
+use Rattle.extjson.specs.Values.{◌>>=◌, Read, whole, counted, number_at, number_of, members_at, members_of, both, either_way, stamp_value, key_value, plain_value, whole_value}
+use Rattle.extjson.specs.Plain.{is_told, has_plain_parts, number_tree, wrapped_numbers, wrapped_items, wrapped_fields}
 use Rattle.extjson.proofs.Wrapping.{wrapped_null, wrapped_bool, wrapped_number, wrapped_str, wrapped_list, told_object, other_object, number_int, number_long}
 
 -- ---- numbers

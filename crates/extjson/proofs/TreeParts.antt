@@ -1,10 +1,10 @@
 -- The value of a tree by the values of its parts.
 use Rattle.extjson.proofs.Recursions.{by_parts-roll}
 use denote.Param.Weighed.{most}
-use Rattle.std.proofs.Common.{◌≡◌, ℕ, ◌<◌, ◌≤◌, max, length, get_or, arith, Bool as Truth, true, false, cond, List, [], ◌∷◌, Ok, Err, refl, sym, ap, ◌∙◌, subst}
+use Rattle.std.proofs.Common.{◌≡◌, ℕ, ◌<◌, ◌≤◌, max, length, get_or, arith, Bool as Truth, true, false, cond, List, [], ◌∷◌, Ok, Err, refl, sym, ap, ◌∙◌}
 use Rattle.std.specs.Prelude.{map, codes}
 use Rattle.std.specs.Str.{bytes_eq}
-use Rattle.json_tree.specs.declared.tree.Tree.{Tree, Tree-F, roll-Tree, map-Tree, fold-roll-Tree, ind-Tree, size-Tree}
+use Rattle.json_tree.specs.declared.tree.Tree.{Tree, Tree-F, roll-Tree, map-Tree, size-Tree}
 use Rattle.json_tree.specs.declared.tree.Tree.TheVariants as trees
 use Rattle.bson_value.specs.declared.value.Value.{Value}
 use Rattle.bson_value.specs.declared.value.Value.TheVariants as values

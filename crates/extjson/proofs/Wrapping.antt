@@ -1,5 +1,5 @@
 -- A tree with its plain whole numbers as wrappers, by its parts.
-use Rattle.std.proofs.Common.{◌≡◌, ℕ, Bool as Truth, true, false, List, [], ◌∷◌, length, take, get_or, ◌+◌, ◌<◌, ◌≤◌, Ok, Err, refl, sym, ap, ◌∙◌, arith}
+use Rattle.std.proofs.Common.{◌≡◌, ℕ, Bool as Truth, true, false, List, [], ◌∷◌, length, get_or, ◌<◌, ◌≤◌, refl, sym, ap, ◌∙◌, arith}
 use Rattle.std.specs.Prelude.{map}
 use Rattle.std.specs.Prelude.{ℤ, Some, None}
 use Rattle.std.specs.Int.{w32, w64}

@@ -1,5 +1,5 @@
 -- Plain whole numbers as wrappers.
-use Rattle.std.specs.Prelude.{◌≡◌, ℕ, Bool, false, List, [], ◌∷◌, map, Option, Some, None, Ok, Err, is_ok, if◌then◌else◌}
+use Rattle.std.specs.Prelude.{◌≡◌, ℕ, Bool, false, List, [], ◌∷◌, map, Option, Some, Ok, Err, is_ok, if◌then◌else◌}
 use Rattle.bson_value.specs.WellFormed.{IsWellFormed}
 use Rattle.bson_value.specs.declared.value.Value.{Value}
 use Rattle.bson_value.specs.declared.value.Value.TheVariants.{MinKey, MaxKey}

@@ -7,7 +7,7 @@ use Rattle.base64.specs.GeneralPurpose.{decode_of as base64_decoded}
 use Rattle.hex.specs.Hex.{decode_sized}
 use Rattle.bson_value.specs.declared.value.Value.{Value, Value-F, out-Value}
 use Rattle.bson_value.specs.declared.value.Value.TheVariants as values
-use Rattle.json_tree.specs.declared.tree.Tree.{Tree, Tree-F, out-Tree, roll-Tree, map-Tree, fold-Tree}
+use Rattle.json_tree.specs.declared.tree.Tree.{Tree, Tree-F, out-Tree}
 use Rattle.extjson.specs.declared.fault.ExtFault.{ExtFault}
 use Rattle.extjson.specs.declared.fault.ExtFault.TheVariants as faults
 use Rattle.extjson.specs.declared.wrapper.Wrapper.{Wrapper}

@@ -1,12 +1,12 @@
 -- What is printed is in the grammar, and is read again.
-use Rattle.std.proofs.Common.{◌≡◌, ◌≢◌, ℕ, zero, suc, ◌+◌, ◌-◌, ◌/◌, ◌%◌, ◌<◌, ◌≤◌, max, true, false, eqb, ltb, List, [], ◌∷◌, ◌++◌, map, Some, Result, Ok, Err, refl, sym, ap, ◌∙◌, subst, inl, inr, arith}
+use Rattle.std.proofs.Common.{◌≡◌, ◌≢◌, ℕ, zero, suc, ◌+◌, ◌-◌, ◌/◌, ◌%◌, ◌<◌, ◌≤◌, true, false, eqb, ltb, List, [], ◌∷◌, ◌++◌, map, Some, Result, Ok, Err, refl, sym, ap, ◌∙◌, subst, inl, inr, arith}
 use Rattle.std.specs.Prelude.{IfOk, OnOk}
 use Rattle.std.specs.Char.{encode_utf8}
 use Rattle.std.specs.List.{AllByRecursion, flat_map}
 use Rattle.std.specs.Str.{is_utf8}
 use Rattle.std.proofs.lemmas.Bool.{cases_Bool, cases_lt, eqb-true, ltb-true, ltb-false, lt-ltb, le-ltb}
 use Rattle.std.proofs.lemmas.List.{append-nil}
-use Rattle.json_tree.specs.declared.tree.Tree.{Tree, Tree-F, out-Tree, roll-out-Tree, map-Tree, fold-Tree, fold-roll-Tree, every_here-Tree, every_held-Tree}
+use Rattle.json_tree.specs.declared.tree.Tree.{Tree, Tree-F, out-Tree, roll-out-Tree, map-Tree, fold-roll-Tree}
 use Rattle.json_text.specs.Reading.{hex_value, meant, tree_of_text}
 use Rattle.json_text.specs.Grammar.{IsUnit, AreChars, none, plain, letter, unit, IsString, AreMore, AreListed, IsMember, IsOne, IsArray, IsObject, Json}
 use Rattle.json_text.specs.Print.{hex_digit_of, escaped, quoted, behind_commas, with_commas, member_text, print_step, text_of, items_text, entry_text, entries_text}

@@ -1,6 +1,6 @@
 -- The levels of a value, by its one level.
 use Rattle.std.proofs.Common.{◌≡◌, ℕ, max, List, [], ◌∷◌, map, refl, sym, ap, ◌∙◌}
-use Rattle.json_tree.specs.declared.tree.Tree.{Tree, Tree-F, out-Tree, roll-Tree, roll-out-Tree, map-Tree, fold-Tree, fold-roll-Tree}
+use Rattle.json_tree.specs.declared.tree.Tree.{Tree, Tree-F, out-Tree, roll-Tree, roll-out-Tree, map-Tree, fold-roll-Tree}
 use Rattle.json_tree.specs.Levels.{largest, levels_step, levels_of, field_levels}
 
 abbrev pub levels_at : Tree-F Tree → ℕ

@@ -9,17 +9,17 @@ use Rattle.bson_value.specs.declared.namespace.NsName.{NsName}
 use Rattle.archive_format.specs.declared.fault.DemuxFault.{DemuxFault}
 use Rattle.archive_format.specs.Shapes.{is_oplog}
 use Rattle.archive_format.specs.Archive.{Taking, meta, doc, end, start, limit, EndsOf, Content, same_ns}
-use Rattle.archive_format.proofs.Fold.{ends_total, ends_unique, content_ends, ends_content}
+use Rattle.archive_format.proofs.Fold.{clean_none, ends_total, ends_unique, content_ends, ends_content}
 use Rattle.archive_format.specs.declared.fault.DemuxFault.TheVariants as faults
 use Rattle.tool_io.specs.Causes.{Rose}
-use Rattle.demux.specs.Told.{Whole, Stop as Stopped, Tells_fault, Fault_told, End_told}
+use Rattle.demux.specs.Told.{Reach, Whole, Wrong, Stop as Stopped, Tells_fault, Fault_told, End_told}
 use Rattle.restore_base.specs.declared.collections.Kept.{Kept}
 use Rattle.restore_base.specs.Kept.{taking_of, takings_in}
 use Rattle.restore_base.specs.Taken.{count_of}
 use Rattle.restore_base.specs.declared.collections.Stop.{Stop}
 use Rattle.restore_base.specs.declared.collections.Stop.TheVariants.{NoId, Metadata, Indexed}
 use Rattle.restore_base.specs.Base.{is_of_collection, base, restored, metadata_stop, stop_at, or_later, first_stop, same_stop}
-use Rattle.restore_base.specs.Outcome.{Outcome, restores, refuses, stops, IsOutcome, OnInput, is_format}
+use Rattle.restore_base.specs.Outcome.{Outcome, restores, refuses, stops, IsOutcome, IsReadTo, IsRefused, IsUnsettled, OnInput, is_format}
 
 -- ---- one outcome
 
@@ -146,41 +146,63 @@ module _ (c0 c : List Taking) (begins : c0 ≡ []) (fine : first_stop c ≡ None
   pub restores_all : (all : List ℕ) → Whole all None is_of_collection (Some c0) (Some c) → IsOutcome all (restores (base c))
   restores_all all w = (w.given, ends_content all w.given w.ends, taken w.given w.took, ap base (kept w.given w.took))
 
-  pub refuses_all : (all : List ℕ) (f : DemuxFault) → Whole all (Some f) is_of_collection (Some c0) (Some c) → IsOutcome all (refuses f)
-  refuses_all all f w = (w.given, w.ends, taken w.given w.took)
+  -- what was given is of the front, and none of it is refused
+  abbrev read_to : (all : List ℕ) (now : Option (List ℕ)) (given : List Taking) → c ≡ c0 ++ filter is_of_collection given → Reach all now given → IsReadTo all now
+  read_to all now given took reach = record { given = given; fine = taken given took; reach = reach }
 
-  pub stops_all : (all : List ℕ) (s : Stop) (o : Option Stop) → o ≡ Some s → Stopped all is_of_collection (Some c0) (Some c) (λ t. same_stop o (stop_at t)) → IsOutcome all (stops s)
-  stops_all all s o is w =
+  pub refuses_all : (all : List ℕ) (now : Option (List ℕ)) (f : DemuxFault) → Wrong all now f is_of_collection (Some c0) (Some c) → IsRefused all now (refuses f)
+  refuses_all all now f w = (read_to all now w.whole.given w.whole.took w.reach, w.whole.ends)
+
+  pub stops_all : (all : List ℕ) (now : Option (List ℕ)) (s : Stop) (o : Option Stop) → o ≡ Some s → Stopped all now is_of_collection (Some c0) (Some c) (λ t. same_stop o (stop_at t)) → IsRefused all now (stops s)
+  stops_all all now s o is w =
       let told : same_stop (Some s) (stop_at w.refused) ≡ true = subst (λ x. same_stop x (stop_at w.refused) ≡ true) is w.told in
-      let here : first_stop (w.refused ∷ w.more) ≡ Some s = ap (λ x. or_later x (first_stop w.more)) (one_reason s (stop_at w.refused) told) in
-      (w.given ++ (w.refused ∷ w.more), w.fault, w.ends, first_stop-append w.given (w.refused ∷ w.more) (taken w.given w.took) ∙ here)
+      (read_to all now w.given w.took w.reach, (w.refused, w.more, w.fault, w.ends, one_reason s (stop_at w.refused) told))
 
-  pub told_format : (first : Option (List ℕ)) (f : DemuxFault) (why : Taking → Bool) → is_format f ≡ true → Fault_told f first is_of_collection (Some c0) (Some c) why → OnInput first (λ all. IsOutcome all (refuses f))
-  told_format None f why is w = tt
-  told_format (Some all) f why is w = refuses_all all f (whole_told all f why is w)
+  pub told_format : (first now : Option (List ℕ)) (f : DemuxFault) (why : Taking → Bool) (rose : Type 0) → is_format f ≡ true → Fault_told f first now is_of_collection (Some c0) (Some c) why rose → OnInput first (λ all. IsRefused all now (refuses f))
+  told_format None now f why rose is w = tt
+  told_format (Some all) now f why rose is w = refuses_all all now f (wrong_told all now f why rose is w)
     where
-      whole_told : (all : List ℕ) (f : DemuxFault) (why : Taking → Bool) → is_format f ≡ true → Tells_fault f all is_of_collection (Some c0) (Some c) why → Whole all (Some f) is_of_collection (Some c0) (Some c)
-      whole_told all faults.ReadFault why is w = cc
-      whole_told all faults.Stopped why is w = cc
-      whole_told all faults.NoMemory why is w = cc
-      whole_told all faults.BadMagic why is w = w
-      whole_told all (faults.Truncated a) why is w = w
-      whole_told all (faults.BadBson a k) why is w = w
-      whole_told all (faults.BadPrelude a) why is w = w
-      whole_told all (faults.BadHeader a) why is w = w
-      whole_told all (faults.AfterEnd n a) why is w = w
-      whole_told all (faults.DocsInEnd a) why is w = w
-      whole_told all (faults.Crc n a b) why is w = w
-      whole_told all (faults.NotEnded n) why is w = w
-      whole_told all faults.TooLong why is w = w
+      wrong_told : (all : List ℕ) (now : Option (List ℕ)) (f : DemuxFault) (why : Taking → Bool) (rose : Type 0) → is_format f ≡ true → Tells_fault f all now is_of_collection (Some c0) (Some c) why rose → Wrong all now f is_of_collection (Some c0) (Some c)
+      wrong_told all now faults.ReadFault why rose is w = cc
+      wrong_told all now faults.Stopped why rose is w = cc
+      wrong_told all now faults.NoMemory why rose is w = cc
+      wrong_told all now faults.BadMagic why rose is w = w
+      wrong_told all now (faults.Truncated a) why rose is w = w
+      wrong_told all now (faults.BadBson a k) why rose is w = w
+      wrong_told all now (faults.BadPrelude a) why rose is w = w
+      wrong_told all now (faults.BadHeader a) why rose is w = w
+      wrong_told all now (faults.AfterEnd n a) why rose is w = w
+      wrong_told all now (faults.DocsInEnd a) why rose is w = w
+      wrong_told all now (faults.Crc n a b) why rose is w = w
+      wrong_told all now (faults.NotEnded n) why rose is w = w
+      wrong_told all now faults.TooLong why rose is w = w
 
   pub told_restored : (first now : Option (List ℕ)) → End_told first now is_of_collection (Some c0) (Some c) → OnInput first (λ all. (now ≡ Some []) × IsOutcome all (restores (base c)))
   told_restored None now w = tt
   told_restored (Some all) now w = (w.0, restores_all all w.1)
 
-  pub told_stopped : (first : Option (List ℕ)) (s : Stop) (o : Option Stop) → o ≡ Some s → Fault_told faults.Stopped first is_of_collection (Some c0) (Some c) (λ t. same_stop o (stop_at t)) → OnInput first (λ all. IsOutcome all (stops s))
-  told_stopped None s o is w = tt
-  told_stopped (Some all) s o is w = stops_all all s o is w
+  pub told_stopped : (first now : Option (List ℕ)) (s : Stop) (o : Option Stop) (rose : Type 0) → o ≡ Some s → Fault_told faults.Stopped first now is_of_collection (Some c0) (Some c) (λ t. same_stop o (stop_at t)) rose → OnInput first (λ all. IsRefused all now (stops s))
+  told_stopped None now s o rose is w = tt
+  told_stopped (Some all) now s o rose is w = stops_all all now s o is w
+
+  pub told_unsettled : (first now : Option (List ℕ)) (why : Taking → Bool) (rose : Type 0) → Fault_told faults.ReadFault first now is_of_collection (Some c0) (Some c) why rose → OnInput first (λ all. IsUnsettled all now)
+  told_unsettled None now why rose w = tt
+  told_unsettled (Some all) now why rose w = (read_to all now w.part.given w.part.took w.part.reach, w.held, w.left, w.now_left, w.is_rest, w.unsettled)
+
+  pub told_starved : (first now : Option (List ℕ)) (why : Taking → Bool) (rose : Type 0) → Fault_told faults.NoMemory first now is_of_collection (Some c0) (Some c) why rose → OnInput first (λ all. IsReadTo all now)
+  told_starved None now why rose w = tt
+  told_starved (Some all) now why rose w = read_to all now w.part.given w.part.took w.part.reach
+
+-- before the first read
+pub unread : (first : Option (List ℕ)) → OnInput first (λ all. IsReadTo all first)
+unread None = tt
+unread (Some all) = record { given = []; fine = refl; reach = record { stage = start; to = 0; rest = all; clean = clean_none start 0 all; near = omega arith } }
+
+pub refused_once : (bytes : List ℕ) (now : Option (List ℕ)) (o : Outcome) → IsRefused bytes now o → IsOutcome bytes o
+refused_once bytes now (restores s) r = absurd r.1
+refused_once bytes now (refuses f) r = (r.0.given, r.1, r.0.fine)
+refused_once bytes now (stops s) r =
+    (r.0.given ++ (r.1.0 ∷ r.1.1), r.1.2, r.1.3, first_stop-append r.0.given (r.1.0 ∷ r.1.1) r.0.fine ∙ ap (λ x. or_later x (first_stop r.1.1)) r.1.4)
 
 -- a taker that stopped has a reason
 pub has_stopped : (o : Option Stop) → Rose 0 (count_of o) → IsSome o

@@ -9,4 +9,4 @@ mod names;
 mod reading;
 
 pub use collections::{Collections, Stop};
-pub use reading::{RestoreFault, one_outcome, restore};
+pub use reading::{RestoreFault, one_outcome, refused_is_outcome, restore};

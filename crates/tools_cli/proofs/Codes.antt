@@ -2,8 +2,8 @@
 use Rattle.std.proofs.Common.{ℕ, ◌≡◌, List, inl, inr, refl, sym, ◌∙◌, ap, subst}
 use Rattle.std.specs.Prelude.{Option, None, Some, Ok, Err}
 use Rattle.restore_base.specs.declared.collections.Stop.TheVariants as reasons
-use Rattle.restore_base.specs.Outcome.{Outcome, restores, stops, IsOutcome, OnInput}
-use Rattle.restore_base.proofs.Outcomes.{outcome_once}
+use Rattle.restore_base.specs.Outcome.{Outcome, restores, stops, IsOutcome, IsRefused, OnInput}
+use Rattle.restore_base.proofs.Outcomes.{outcome_once, refused_once}
 use Rattle.tools_cli.specs.declared.words.Verb.{Verb}
 use Rattle.tools_cli.specs.declared.words.Verb.TheVariants as verbs
 use Rattle.tools_cli.specs.declared.words.Choice.{Choice}
@@ -14,7 +14,7 @@ use Rattle.tools_cli.specs.declared.status.Status.TheVariants as is
 use Rattle.tools_cli.specs.Words.{Meaning}
 use Rattle.tools_cli.specs.Ends.{Turn}
 use Rattle.tools_cli.specs.Lines.{code_of}
-use Rattle.tools_cli.specs.Answers.{OfCommand, Restores, HasOutcome, outcome_of, IsShown, Says, Told, Reports, RunsOut, Answers, IsDue, IsDueBy, Gives, outcome_code}
+use Rattle.tools_cli.specs.Answers.{OfCommand, Restores, HasOutcome, Refused, outcome_of, IsShown, Says, Told, Reports, RunsOut, Answers, IsDue, IsDueBy, Gives, outcome_code}
 use Rattle.tools_cli.proofs.Telling.{told_front}
 
 -- The status that is due.
@@ -28,11 +28,17 @@ outcome_due (Some all) o code n given is e d =
     let once : d.1 ≡ o = outcome_once d.0 d.1 o d.3 (subst (λ b. IsOutcome b o) whole is) in
     sym e ∙ (ap outcome_code (sym once) ∙ sym d.4)
 
-by_restore : (m : Meaning) (o : Outcome) (code : ℕ) (i out : Turn) → Restores m → HasOutcome i o → outcome_code o ≡ code → (n : ℕ) → IsDue m i.before.bytes n → Gives code i out n
+refused : (i : Turn) (o : Outcome) → Refused i o → HasOutcome i o
+refused i o h = go i.before.bytes h where
+  go : (known : Option (List ℕ)) → OnInput known (λ all. IsRefused all i.after.bytes o) → OnInput known (λ all. IsOutcome all o)
+  go None r = tt
+  go (Some all) r = refused_once all i.after.bytes o r
+
+by_restore : (m : Meaning) (o : Outcome) (code : ℕ) (i out : Turn) → Restores m → Refused i o → outcome_code o ≡ code → (n : ℕ) → IsDue m i.before.bytes n → Gives code i out n
 by_restore (Err at) o code i out r h e n d = absurd r
 by_restore (Ok c) o code i out r h e n d =
     let P : Verb → Type 0 = λ v. IsDueBy i.before.bytes n v c.1 in
-    inl (outcome_due i.before.bytes o code n c.1 h e (subst P r d))
+    inl (outcome_due i.before.bytes o code n c.1 (refused i o h) e (subst P r d))
 
 by_done : (v : Verb) (given : List Choice) (text : List ℕ) (i out : Turn) → IsShown i text v given → (n : ℕ) → IsDueBy i.before.bytes n v given → Gives 0 i out n
 by_done verbs.Restore given text i out h n d = inl (outcome_due i.before.bytes (restores h.0) 0 n given h.1 refl d)
@@ -92,7 +98,7 @@ told_answers m is.ReadFault i o r h t = record {
   done = λ e. absurd cc;
   usage = λ e. absurd cc;
   bad_archive = λ e. absurd cc;
-  read_fault = λ _. (h.0, h.1, h.2, t);
+  read_fault = λ _. (h.0, h.1, h.2, h.3, t);
   write_fault = λ e. absurd cc;
   no_memory = λ e. absurd cc;
   unbuilt = λ e. absurd cc;
@@ -104,7 +110,7 @@ told_answers m is.WriteFault i o r h t = record {
   usage = λ e. absurd cc;
   bad_archive = λ e. absurd cc;
   read_fault = λ e. absurd cc;
-  write_fault = λ _. (h.0, h.1, t);
+  write_fault = λ _. (h.0, h.1, h.2, t);
   no_memory = λ e. absurd cc;
   unbuilt = λ e. absurd cc;
   due = λ n d. inr (inr (inl (refl, h.0)));

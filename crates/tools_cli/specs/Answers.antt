@@ -3,7 +3,7 @@ use Rattle.std.specs.Prelude.{◌≡◌, ◌⊎◌, ℕ, List, [], Option, Some,
 use Rattle.state_listing.specs.Listing.{State, listing}
 use Rattle.restore_base.specs.declared.collections.Stop.{Stop}
 use Rattle.restore_base.specs.declared.collections.Stop.TheVariants as reasons
-use Rattle.restore_base.specs.Outcome.{Outcome, restores, refuses, stops, IsOutcome, OnInput}
+use Rattle.restore_base.specs.Outcome.{Outcome, restores, refuses, stops, IsOutcome, IsReadTo, IsRefused, IsUnsettled, OnInput}
 use Rattle.tools_cli.specs.declared.words.Verb.{Verb}
 use Rattle.tools_cli.specs.declared.words.Verb.TheVariants as verbs
 use Rattle.tools_cli.specs.declared.words.Choice.{Choice}
@@ -35,12 +35,31 @@ outcome_of (refusals.Format f) = refuses f
 outcome_of (refusals.NoId ns) = stops (reasons.NoId ns)
 outcome_of (refusals.Metadata ns at) = stops (reasons.Metadata ns at)
 
+-- an input that is refused, and how far it was read
+abbrev pub Refused : Turn → Outcome → Type 0
+Refused input o = OnInput input.before.bytes (λ all. IsRefused all input.after.bytes o)
+
+-- no refusal lies in what was read
+abbrev pub Unsettled : Turn → Type 0
+Unsettled input = OnInput input.before.bytes (λ all. IsUnsettled all input.after.bytes)
+
 -- What was read: the whole input, or nothing.
 
 abbrev pub ReadBy : Verb → Turn → Type 0
 ReadBy verbs.Restore input = OnInput input.before.bytes (λ all. input.after.bytes ≡ Some [])
 ReadBy verbs.Help input = Same input
 ReadBy verbs.Version input = Same input
+
+-- What was read at most: the whole input, or no more than the window behind what was taken.
+
+abbrev pub ReadSome : Verb → Turn → Type 0
+ReadSome verbs.Restore input = OnInput input.before.bytes (λ all. (input.after.bytes ≡ Some []) ⊎ IsReadTo all input.after.bytes)
+ReadSome verbs.Help input = Same input
+ReadSome verbs.Version input = Same input
+
+abbrev pub ReadAtMost : Meaning → Turn → Type 0
+ReadAtMost (Ok c) input = ReadSome c.0 input
+ReadAtMost (Err at) input = Same input
 
 -- The text that a command writes: the listing of the state that the input restores to, or a text of its own.
 
@@ -60,11 +79,11 @@ ShowsFront m input output = (text : List ℕ) × OfCommand m (IsShown input text
 abbrev pub Says : Meaning → Status → Turn → Turn → Type 0
 Says m is.Done input output = OfCommand m (λ v given. ReadBy v input) × Shows m input output
 Says m (is.Usage at) input output = (m ≡ Err at) × Same input × Same output
-Says m (is.BadArchive f) input output = Restores m × HasOutcome input (outcome_of f) × Same output
-Says m is.ReadFault input output = Restores m × Failed input × Same output
-Says m is.WriteFault input output = Failed output × ShowsFront m input output
-Says m is.NoMemory input output = Same output ⊎ ShowsFront m input output
-Says m is.Unbuilt input output = Restores m × HasOutcome input (stops reasons.Indexed) × Same output
+Says m (is.BadArchive f) input output = Restores m × Refused input (outcome_of f) × Same output
+Says m is.ReadFault input output = Restores m × Failed input × Unsettled input × Same output
+Says m is.WriteFault input output = Failed output × OfCommand m (λ v given. ReadBy v input) × ShowsFront m input output
+Says m is.NoMemory input output = ReadAtMost m input × (Same output ⊎ ShowsFront m input output)
+Says m is.Unbuilt input output = Restores m × Refused input (stops reasons.Indexed) × Same output
 
 -- a text of the command's own was written
 abbrev pub Shown : List ℕ → Status → Turn → Type 0
@@ -124,10 +143,10 @@ pub record Answers (m : Meaning) (code : ℕ) (input output report : Turn) : Typ
   pub known : (s : Status) × (code ≡ code_of s)
   pub done : code ≡ 0 → OfCommand m (λ v given. ReadBy v input) × Shows m input output × Same report
   pub usage : code ≡ 1 → (at : ℕ) × (m ≡ Err at) × Same input × Same output × Tells report (usage_line at)
-  pub bad_archive : code ≡ 3 → (f : ArchiveFault) × Restores m × HasOutcome input (outcome_of f) × Same output × Tells report (refusal_line f)
-  pub read_fault : code ≡ 9 → Restores m × Failed input × Same output × Tells report (line_of is.ReadFault)
-  pub write_fault : code ≡ 10 → Failed output × ShowsFront m input output × Tells report (line_of is.WriteFault)
+  pub bad_archive : code ≡ 3 → (f : ArchiveFault) × Restores m × Refused input (outcome_of f) × Same output × Tells report (refusal_line f)
+  pub read_fault : code ≡ 9 → Restores m × Failed input × Unsettled input × Same output × Tells report (line_of is.ReadFault)
+  pub write_fault : code ≡ 10 → Failed output × OfCommand m (λ v given. ReadBy v input) × ShowsFront m input output × Tells report (line_of is.WriteFault)
   -- the line is the one that would have been told, or that of this status
   pub no_memory : code ≡ 11 → (s : Status) × Says m s input output × RunsOut s report
-  pub unbuilt : code ≡ 12 → Restores m × HasOutcome input (stops reasons.Indexed) × Same output × Tells report (line_of is.Unbuilt)
+  pub unbuilt : code ≡ 12 → Restores m × Refused input (stops reasons.Indexed) × Same output × Tells report (line_of is.Unbuilt)
   pub due : (n : ℕ) → IsDue m input.before.bytes n → Gives code input output n

@@ -1,4 +1,4 @@
-use Rattle.std.proofs.Common.{◌≡◌, ◌≤◌, ◌<◌, ℕ, List, true, length}
+use Rattle.std.proofs.Common.{◌≡◌, ◌≤◌, ℕ, List, true, length}
 use Rattle.bson_check.specs.Passing.{Path, has}
 use Rattle.bson_check.specs.Slots.{IsMarked}
 use Rattle.bson_check.proofs.Search.{Seen}

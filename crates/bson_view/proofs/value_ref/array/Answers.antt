@@ -1,4 +1,3 @@
-use Rattle.std.proofs.Common.{sym, ap, ◌∙◌}
 use Rattle.bson_view.proofs.Bodies.{array_value}
 use Rattle.bson_view.proofs.value_ref.array.Goals as goal
 

@@ -58,5 +58,5 @@ returns-in-Err-ending-clause-turns g c = λ first keep why before kept h.
     let all : take (limit - at) b ≡ b = take_all (limit - at) b (omega (arith, ap length c.held.ensures.bytes)) in
     let near : at + length b ≤ limit = omega (arith, ap length c.held.ensures.bytes) in
     let same : c.held-in-Ok-eq0.result.now ≡ b = c.held-in-Ok-eq0.ensures.bytes ∙ n.0 in
-    end_refused keep before kept kept why s at b first (g.S.Source.left c.args.source.now) (g.S.Source.left c.fill.new.source) c.in-Err-ending.fault h c.requires.room (subst (λ y. next s at y ≡ short) all c.requires.short) near n.1 (f.ended z)
-    (subst (λ y. ending false s at y ≡ Some c.in-Err-ending.fault) same c.in-Err-ending.ensures.closes.0) c.in-Err-ending.ensures.closes.1 c.in-Err-ending.ensures.fed (took_none keep kept)
+    end_refused keep before kept kept why s at b first (g.S.Source.left c.args.source.now) (g.S.Source.left c.fill.new.source) c.in-Err-ending.end h c.requires.room (subst (λ y. next s at y ≡ short) all c.requires.short) near n.1 (f.ended z)
+    (subst (λ y. ending false s at y ≡ Some c.in-Err-ending.end) same c.in-Err-ending.ensures.closes.0) c.in-Err-ending.ensures.closes.1 c.in-Err-ending.ensures.fed (took_none keep kept)

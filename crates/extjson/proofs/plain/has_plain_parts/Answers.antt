@@ -1,6 +1,4 @@
-use Rattle.std.proofs.Common.{◌≡◌, Bool, sym, subst, ap, ◌∙◌}
-use Rattle.std.specs.Prelude.{IfOk}
-use Rattle.extjson.specs.Plain.{is_told}
+use Rattle.std.proofs.Common.{sym}
 use Rattle.extjson.proofs.Wrapping.{parts_none, parts_one, parts_more}
 use Rattle.extjson.proofs.plain.has_plain_parts.Goals as goal
 

@@ -9,7 +9,8 @@ use Rattle.restore_base.specs.Outcome.{IsOutcome, OnInput, restores}
 use Rattle.tools_cli.specs.declared.words.Verb.{Verb}
 use Rattle.tools_cli.specs.Words.{form_of}
 use Rattle.tools_cli.specs.Ends.{turn}
-use Rattle.tools_cli.specs.Answers.{IsShown}
+use Rattle.tools_cli.specs.Answers.{IsShown, ReadSome}
+use Rattle.tools_cli.proofs.Reading.{all_read}
 use Rattle.tools_cli.proofs.listing.list_archive.Goals as goal
 
 outcome : (o now : Option (List ℕ)) (s : State) → OnInput o (λ all. (now ≡ Some []) × IsOutcome all (restores s)) → OnInput o (λ all. IsOutcome all (restores s))
@@ -26,4 +27,7 @@ returns-in-Ok g c =
     let input = turn (left c.args.input.now) (g.S.Source.faults c.args.input.now) (left c.restore.new.source) (g.S.Source.faults c.restore.new.source) in
     let P : Verb → Type 0 = λ v. IsShown input text v given in
     let Q : ListForm → Type 0 = λ f. AppendsFront (written c.args.output.now) (written c.list.new.sink) (listing f s) in
-    inr (text, subst P (sym c.requires) (s, outcome (left c.args.input.now) (left c.restore.new.source) s c.in-Ok.ensures.restored, refl), subst Q c.form.ensures c.in-Err-NoMemory-list.ensures.err)
+    let R : Verb → Type 0 = λ v. ReadSome v input in (
+      subst R (sym c.requires) (all_read (left c.args.input.now) (left c.restore.new.source) s c.in-Ok.ensures.restored),
+      inr (text, subst P (sym c.requires) (s, outcome (left c.args.input.now) (left c.restore.new.source) s c.in-Ok.ensures.restored, refl), subst Q c.form.ensures c.in-Err-NoMemory-list.ensures.err),
+    )

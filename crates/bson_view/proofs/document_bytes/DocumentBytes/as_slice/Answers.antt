@@ -1,4 +1,3 @@
-use Rattle.std.proofs.Common.{rules}
 use Rattle.bson_view.proofs.Meanings.{faultless}
 use Rattle.bson_view.proofs.document_bytes.DocumentBytes.as_slice.Goals as goal
 
