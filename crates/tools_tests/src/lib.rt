@@ -2,4 +2,8 @@
 #![tactic(auto)]
 
 #[cfg(test)]
+mod failing_ends;
+#[cfg(test)]
+mod refusals;
+#[cfg(test)]
 mod restore;

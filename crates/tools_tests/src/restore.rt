@@ -45,6 +45,20 @@ fn digits_of(word: &str) -> &str {
         "end-nameless" => {
             "340000000264620002000000610002636f6c6c656374696f6e0002000000620008454f4600011243524300167b8b2e55501a1d00"
         }
+        "unsummed-a.b" => {
+            "270000000264620002000000610002636f6c6c656374696f6e0002000000620008454f46000100"
+        }
+        "end-deep" => {
+            "340000000264620002000000610002636f6c6c656374696f6e0002000000620008454f4600011243524300032acf4b508784a400"
+        }
+        // The header of an archive behind its length.
+        "fields" => {
+            "10636f6e63757272656e745f636f6c6c656374696f6e7300010000000276657273696f6e0004000000302e3100027365727665725f76657273696f6e0006000000302e302e300002746f6f6c5f76657273696f6e0006000000302e302e300000"
+        }
+        // One of another version.
+        "newer" => {
+            "6400000010636f6e63757272656e745f636f6c6c656374696f6e7300010000000276657273696f6e0004000000302e3200027365727665725f76657273696f6e0006000000302e302e300002746f6f6c5f76657273696f6e0006000000302e302e300000"
+        }
         "one" => "0e000000105f6964000100000000",
         "two" => "0e000000105f6964000200000000",
         "later" => "17000000105f6964000100000002730002000000320000",
@@ -73,7 +87,7 @@ fn digits_of(word: &str) -> &str {
 }
 
 // The bytes of these items. A word that names none is digits.
-fn bytes_of(alloc: Global, words: &str) -> Result<Vec<u8>, Fail> {
+pub fn bytes_of(alloc: Global, words: &str) -> Result<Vec<u8>, Fail> {
     let mut bytes = Vec::new(alloc);
     for word in words.split(' ') {
         bytes.extend_from_slice(&hex::decode(alloc, digits_of(word))?)?;
@@ -92,7 +106,7 @@ struct Row {
     report: &'static str,
 }
 
-const HEX: [&str; 3] = ["restore", "--archive", "--form=hex"];
+pub const HEX: [&str; 3] = ["restore", "--archive", "--form=hex"];
 
 const JSON: [&str; 2] = ["restore", "--archive"];
 
@@ -301,21 +315,21 @@ const ROWS: [Row; 25] = [
 
 // What a call did: its status, and what was written to the output and to the report.
 #[derive(Drop)]
-struct Ended {
-    status: u8,
-    output: MemSink,
-    report: MemSink,
+pub struct Ended {
+    pub status: u8,
+    pub output: MemSink,
+    pub report: MemSink,
 }
 
 // The calls of this number fail: of the input's reads, and of the writes to the output and to the report.
 #[derive(Clone, Copy, Drop)]
-struct Fails {
-    read: Option<u64>,
-    output: Option<u64>,
-    report: Option<u64>,
+pub struct Fails {
+    pub read: Option<u64>,
+    pub output: Option<u64>,
+    pub report: Option<u64>,
 }
 
-const NO_FAILS: Fails = Fails {
+pub const NO_FAILS: Fails = Fails {
     read: None,
     output: None,
     report: None,
@@ -330,12 +344,22 @@ fn told(alloc: Global, call: Option<u64>) -> Result<Vec<u64>, Fail> {
 }
 
 fn call(rt: HostRuntime, words: &[&str], input: &[u8], fails: Fails) -> Result<Ended, Fail> {
-    let alloc = rt.alloc();
+    call_in_pieces(rt.alloc(), words, input, 7, fails)
+}
+
+// The same with an input of so many bytes a read.
+pub fn call_in_pieces(
+    alloc: Global,
+    words: &[&str],
+    input: &[u8],
+    piece: usize,
+    fails: Fails,
+) -> Result<Ended, Fail> {
     let mut owned = Vec::new(alloc);
     for word in words {
         owned.push(String::from_str(alloc, word)?)?;
     }
-    let pieces = vec![in alloc; 7]?;
+    let pieces = vec![in alloc; piece.max(1)]?;
     let mut input = MemSource::new(input.to_vec(alloc)?, pieces, told(alloc, fails.read)?);
     let mut output = MemSink::new(alloc, told(alloc, fails.output)?);
     let mut report = MemSink::new(alloc, told(alloc, fails.report)?);
