@@ -4,9 +4,9 @@ use Rattle.std.specs.Prelude.{Option, None, Some, Ok, Err}
 use Rattle.restore_base.specs.declared.collections.Stop.TheVariants as reasons
 use Rattle.restore_base.specs.Outcome.{Outcome, restores, stops, IsOutcome, IsRefused, OnInput}
 use Rattle.restore_base.proofs.Outcomes.{outcome_once, refused_once}
-use Rattle.tools_cli.specs.declared.words.Verb.{Verb}
-use Rattle.tools_cli.specs.declared.words.Verb.TheVariants as verbs
-use Rattle.tools_cli.specs.declared.words.Choice.{Choice}
+use Rattle.tools_cli.specs.declared.order.Order.{Order}
+use Rattle.tools_cli.specs.declared.order.Order.TheVariants as orders
+use Rattle.tools_cli.specs.declared.order.RestoreOrder.{RestoreOrder}
 use Rattle.tools_cli.specs.declared.status.ArchiveFault.{ArchiveFault}
 use Rattle.tools_cli.specs.declared.status.ArchiveFault.TheVariants as refusals
 use Rattle.tools_cli.specs.declared.status.Status.{Status}
@@ -20,9 +20,9 @@ use Rattle.tools_cli.proofs.Telling.{told_front}
 -- The status that is due.
 
 -- an input with this outcome
-outcome_due : (known : Option (List ℕ)) (o : Outcome) (code n : ℕ) (given : List Choice) → OnInput known (λ all. IsOutcome all o) → outcome_code o ≡ code → IsDueBy known n verbs.Restore given → code ≡ n
-outcome_due None o code n given is e d = let c = d.2 in cc
-outcome_due (Some all) o code n given is e d =
+outcome_due : (known : Option (List ℕ)) (o : Outcome) (code n : ℕ) (order : RestoreOrder) → OnInput known (λ all. IsOutcome all o) → outcome_code o ≡ code → IsDueBy known n (orders.Restore order) → code ≡ n
+outcome_due None o code n order is e d = let c = d.2 in cc
+outcome_due (Some all) o code n order is e d =
     let same : Some all ≡ Some d.0 = d.2 in
     let whole : all ≡ d.0 = cc in
     let once : d.1 ≡ o = outcome_once d.0 d.1 o d.3 (subst (λ b. IsOutcome b o) whole is) in
@@ -35,19 +35,18 @@ refused i o h = go i.before.bytes h where
   go (Some all) r = refused_once all i.after.bytes o r
 
 by_restore : (m : Meaning) (o : Outcome) (code : ℕ) (i out : Turn) → Restores m → Refused i o → outcome_code o ≡ code → (n : ℕ) → IsDue m i.before.bytes n → Gives code i out n
-by_restore (Err at) o code i out r h e n d = absurd r
-by_restore (Ok c) o code i out r h e n d =
-    let P : Verb → Type 0 = λ v. IsDueBy i.before.bytes n v c.1 in
-    inl (outcome_due i.before.bytes o code n c.1 (refused i o h) e (subst P r d))
+by_restore m o code i out r h e n d =
+    let P : Meaning → Type 0 = λ k. IsDue k i.before.bytes n in
+    inl (outcome_due i.before.bytes o code n r.0 (refused i o h) e (subst P r.1 d))
 
-by_done : (v : Verb) (given : List Choice) (text : List ℕ) (i out : Turn) → IsShown i text v given → (n : ℕ) → IsDueBy i.before.bytes n v given → Gives 0 i out n
-by_done verbs.Restore given text i out h n d = inl (outcome_due i.before.bytes (restores h.0) 0 n given h.1 refl d)
-by_done verbs.Help given text i out h n d = inl (sym d)
-by_done verbs.Version given text i out h n d = inl (sym d)
+by_done : (order : Order) (text : List ℕ) (i out : Turn) → IsShown i text order → (n : ℕ) → IsDueBy i.before.bytes n order → Gives 0 i out n
+by_done (orders.Restore order) text i out h n d = inl (outcome_due i.before.bytes (restores h.0) 0 n order h.1 refl d)
+by_done orders.Help text i out h n d = inl (sym d)
+by_done orders.Version text i out h n d = inl (sym d)
 
 due_done : (m : Meaning) (text : List ℕ) (i out : Turn) → OfCommand m (IsShown i text) → (n : ℕ) → IsDue m i.before.bytes n → Gives 0 i out n
 due_done (Err at) text i out h n d = absurd h
-due_done (Ok c) text i out h n d = by_done c.0 c.1 text i out h n d
+due_done (Ok order) text i out h n d = by_done order text i out h n d
 
 due_usage : (m : Meaning) (at : ℕ) (i out : Turn) → m ≡ Err at → (n : ℕ) → IsDue m i.before.bytes n → Gives 1 i out n
 due_usage m at i out e n d = let P : Meaning → Type 0 = λ k. IsDue k i.before.bytes n in inl (sym (subst P e d))

@@ -5,8 +5,8 @@ use Rattle.demux.proofs.Begin.{keeps_same}
 use Rattle.state_listing.specs.Listing.{State}
 use Rattle.restore_base.specs.Outcome.{IsOutcome, IsReadTo, OnInput, restores}
 use Rattle.restore_base.proofs.Outcomes.{unread}
-use Rattle.tools_cli.specs.declared.words.Verb.{Verb}
-use Rattle.tools_cli.specs.declared.words.Verb.TheVariants as verbs
+use Rattle.tools_cli.specs.declared.order.Order.{Order}
+use Rattle.tools_cli.specs.declared.order.Order.TheVariants as orders
 use Rattle.tools_cli.specs.Words.{Meaning}
 use Rattle.tools_cli.specs.Ends.{turn}
 use Rattle.tools_cli.specs.Answers.{ReadSome, ReadAtMost}
@@ -19,11 +19,11 @@ some_read : (o now : Option (List ℕ)) → OnInput o (λ all. IsReadTo all now)
 some_read None now h = tt
 some_read (Some all) now h = inr h
 
-none_read : (v : Verb) (x : Option (List ℕ)) (f : ℕ) → ReadSome v (turn x f x f)
-none_read verbs.Restore x f = some_read x x (unread x)
-none_read verbs.Help x f = keeps_same x
-none_read verbs.Version x f = keeps_same x
+none_read : (o : Order) (x : Option (List ℕ)) (f : ℕ) → ReadSome o (turn x f x f)
+none_read (orders.Restore o) x f = some_read x x (unread x)
+none_read orders.Help x f = keeps_same x
+none_read orders.Version x f = keeps_same x
 
 pub none_read_at_most : (m : Meaning) (x : Option (List ℕ)) (f : ℕ) → ReadAtMost m (turn x f x f)
-none_read_at_most (Ok c) x f = none_read c.0 x f
+none_read_at_most (Ok o) x f = none_read o x f
 none_read_at_most (Err at) x f = keeps_same x

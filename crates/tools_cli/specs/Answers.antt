@@ -4,26 +4,26 @@ use Rattle.state_listing.specs.Listing.{State, listing}
 use Rattle.restore_base.specs.declared.collections.Stop.{Stop}
 use Rattle.restore_base.specs.declared.collections.Stop.TheVariants as reasons
 use Rattle.restore_base.specs.Outcome.{Outcome, restores, refuses, stops, IsOutcome, IsReadTo, IsRefused, IsUnsettled, OnInput}
-use Rattle.tools_cli.specs.declared.words.Verb.{Verb}
-use Rattle.tools_cli.specs.declared.words.Verb.TheVariants as verbs
-use Rattle.tools_cli.specs.declared.words.Choice.{Choice}
+use Rattle.tools_cli.specs.declared.order.Order.{Order}
+use Rattle.tools_cli.specs.declared.order.Order.TheVariants as orders
+use Rattle.tools_cli.specs.declared.order.RestoreOrder.{RestoreOrder}
 use Rattle.tools_cli.specs.declared.status.ArchiveFault.{ArchiveFault}
 use Rattle.tools_cli.specs.declared.status.ArchiveFault.TheVariants as refusals
 use Rattle.tools_cli.specs.declared.status.Status.{Status}
 use Rattle.tools_cli.specs.declared.status.Status.TheVariants as is
 use Rattle.tools_cli.specs.declared.texts.TheConstants.{HELP, VERSION}
-use Rattle.tools_cli.specs.Words.{Meaning, form_of}
+use Rattle.tools_cli.specs.Words.{Meaning}
 use Rattle.tools_cli.specs.Lines.{code_of, line_of, usage_line, refusal_line, no_memory_line}
 use Rattle.tools_cli.specs.Ends.{Turn, Same, Failed, Writes, WritesFront, Tells}
 
 -- What the words mean, seen by the command.
 
-abbrev pub OfCommand : Meaning → (Verb → List Choice → Type 0) → Type 0
-OfCommand (Ok c) P = P c.0 c.1
+abbrev pub OfCommand : Meaning → (Order → Type 0) → Type 0
+OfCommand (Ok o) P = P o
 OfCommand (Err at) P = ⊥
 
 abbrev pub Restores : Meaning → Type 0
-Restores m = OfCommand m (λ v given. v ≡ verbs.Restore)
+Restores m = (o : RestoreOrder) × (m ≡ Ok (orders.Restore o))
 
 -- What the input is, where it is known.
 
@@ -45,28 +45,28 @@ Unsettled input = OnInput input.before.bytes (λ all. IsUnsettled all input.afte
 
 -- What was read: the whole input, or nothing.
 
-abbrev pub ReadBy : Verb → Turn → Type 0
-ReadBy verbs.Restore input = OnInput input.before.bytes (λ all. input.after.bytes ≡ Some [])
-ReadBy verbs.Help input = Same input
-ReadBy verbs.Version input = Same input
+abbrev pub ReadBy : Order → Turn → Type 0
+ReadBy (orders.Restore o) input = OnInput input.before.bytes (λ all. input.after.bytes ≡ Some [])
+ReadBy orders.Help input = Same input
+ReadBy orders.Version input = Same input
 
 -- What was read at most: the whole input, or no more than the window behind what was taken.
 
-abbrev pub ReadSome : Verb → Turn → Type 0
-ReadSome verbs.Restore input = OnInput input.before.bytes (λ all. (input.after.bytes ≡ Some []) ⊎ IsReadTo all input.after.bytes)
-ReadSome verbs.Help input = Same input
-ReadSome verbs.Version input = Same input
+abbrev pub ReadSome : Order → Turn → Type 0
+ReadSome (orders.Restore o) input = OnInput input.before.bytes (λ all. (input.after.bytes ≡ Some []) ⊎ IsReadTo all input.after.bytes)
+ReadSome orders.Help input = Same input
+ReadSome orders.Version input = Same input
 
 abbrev pub ReadAtMost : Meaning → Turn → Type 0
-ReadAtMost (Ok c) input = ReadSome c.0 input
+ReadAtMost (Ok o) input = ReadSome o input
 ReadAtMost (Err at) input = Same input
 
 -- The text that a command writes: the listing of the state that the input restores to, or a text of its own.
 
-abbrev pub IsShown : Turn → List ℕ → Verb → List Choice → Type 0
-IsShown input text verbs.Restore given = (s : State) × HasOutcome input (restores s) × (text ≡ listing (form_of given) s)
-IsShown input text verbs.Help given = text ≡ HELP.now
-IsShown input text verbs.Version given = text ≡ VERSION.now
+abbrev pub IsShown : Turn → List ℕ → Order → Type 0
+IsShown input text (orders.Restore o) = (s : State) × HasOutcome input (restores s) × (text ≡ listing o.form s)
+IsShown input text orders.Help = text ≡ HELP.now
+IsShown input text orders.Version = text ≡ VERSION.now
 
 abbrev pub Shows : Meaning → Turn → Turn → Type 0
 Shows m input output = (text : List ℕ) × OfCommand m (IsShown input text) × Writes output text
@@ -77,11 +77,11 @@ ShowsFront m input output = (text : List ℕ) × OfCommand m (IsShown input text
 -- What was done with the input and the output, by the status.
 
 abbrev pub Says : Meaning → Status → Turn → Turn → Type 0
-Says m is.Done input output = OfCommand m (λ v given. ReadBy v input) × Shows m input output
+Says m is.Done input output = OfCommand m (λ o. ReadBy o input) × Shows m input output
 Says m (is.Usage at) input output = (m ≡ Err at) × Same input × Same output
 Says m (is.BadArchive f) input output = Restores m × Refused input (outcome_of f) × Same output
 Says m is.ReadFault input output = Restores m × Failed input × Unsettled input × Same output
-Says m is.WriteFault input output = Failed output × OfCommand m (λ v given. ReadBy v input) × ShowsFront m input output
+Says m is.WriteFault input output = Failed output × OfCommand m (λ o. ReadBy o input) × ShowsFront m input output
 Says m is.NoMemory input output = ReadAtMost m input × (Same output ⊎ ShowsFront m input output)
 Says m is.Unbuilt input output = Restores m × Refused input (stops reasons.Indexed) × Same output
 
@@ -125,13 +125,13 @@ outcome_code (refuses f) = 3
 outcome_code (stops s) = stop_code s
 
 -- this status is due for a command over this input
-abbrev pub IsDueBy : Option (List ℕ) → ℕ → Verb → List Choice → Type 0
-IsDueBy known n verbs.Restore given = (all : List ℕ) × (o : Outcome) × (known ≡ Some all) × IsOutcome all o × (n ≡ outcome_code o)
-IsDueBy known n verbs.Help given = n ≡ 0
-IsDueBy known n verbs.Version given = n ≡ 0
+abbrev pub IsDueBy : Option (List ℕ) → ℕ → Order → Type 0
+IsDueBy known n (orders.Restore order) = (all : List ℕ) × (o : Outcome) × (known ≡ Some all) × IsOutcome all o × (n ≡ outcome_code o)
+IsDueBy known n orders.Help = n ≡ 0
+IsDueBy known n orders.Version = n ≡ 0
 
 abbrev pub IsDue : Meaning → Option (List ℕ) → ℕ → Type 0
-IsDue (Ok c) known n = IsDueBy known n c.0 c.1
+IsDue (Ok o) known n = IsDueBy known n o
 IsDue (Err at) known n = n ≡ 1
 
 -- the status is this one, or an end failed, or memory was short
@@ -141,11 +141,11 @@ Gives code input output due = (code ≡ due) ⊎ (((code ≡ 9) × Failed input)
 -- The whole call: what the words mean, the status as a number, and the ends.
 pub record Answers (m : Meaning) (code : ℕ) (input output report : Turn) : Type 0 where
   pub known : (s : Status) × (code ≡ code_of s)
-  pub done : code ≡ 0 → OfCommand m (λ v given. ReadBy v input) × Shows m input output × Same report
+  pub done : code ≡ 0 → OfCommand m (λ o. ReadBy o input) × Shows m input output × Same report
   pub usage : code ≡ 1 → (at : ℕ) × (m ≡ Err at) × Same input × Same output × Tells report (usage_line at)
   pub bad_archive : code ≡ 3 → (f : ArchiveFault) × Restores m × Refused input (outcome_of f) × Same output × Tells report (refusal_line f)
   pub read_fault : code ≡ 9 → Restores m × Failed input × Unsettled input × Same output × Tells report (line_of is.ReadFault)
-  pub write_fault : code ≡ 10 → Failed output × OfCommand m (λ v given. ReadBy v input) × ShowsFront m input output × Tells report (line_of is.WriteFault)
+  pub write_fault : code ≡ 10 → Failed output × OfCommand m (λ o. ReadBy o input) × ShowsFront m input output × Tells report (line_of is.WriteFault)
   -- the line is the one that would have been told, or that of this status
   pub no_memory : code ≡ 11 → (s : Status) × Says m s input output × RunsOut s report
   pub unbuilt : code ≡ 12 → Restores m × Refused input (stops reasons.Indexed) × Same output × Tells report (line_of is.Unbuilt)

@@ -1,86 +1,160 @@
--- What the words of the command line mean: a command with its options, or the place of the first word that can't stand where it
--- stands, counted from 0. Where something is missing, that place is the number of words.
-use Rattle.std.specs.Prelude.{◌≡◌, ℕ, ◌+◌, Bool, true, false, List, [], ◌∷◌, ◌++◌, map, Option, Some, None, Result, Ok, Err, String, string_bytes, codes, if◌then◌else◌}
+-- What the words of the command line mean: a command with its order, or the place of the first word that can't stand where it
+-- stands, counted from 0. Where a rule of the command isn't met, that place is the number of words.
+use Rattle.std.specs.Prelude.{◌≡◌, ℕ, ◌+◌, Bool, true, false, not, ◌||◌, nat_eq, List, [], ◌∷◌, ◌++◌, take, drop, length, map, fold, filter, Option, Some, None, option_map, option_and_then, Result, Ok, Err, String, string_bytes, codes, if◌then◌else◌}
 use Rattle.std.specs.List.{list_any, list_all}
 use Rattle.std.specs.Str.{bytes_eq}
 use Rattle.std.specs.declared.alloc.Global.{Global}
 use Rattle.state_listing.specs.declared.lines.ListForm.{ListForm}
 use Rattle.state_listing.specs.declared.lines.ListForm.TheVariants as forms
-use Rattle.tools_cli.specs.declared.words.Verb.{Verb}
-use Rattle.tools_cli.specs.declared.words.Verb.TheVariants as verbs
-use Rattle.tools_cli.specs.declared.words.Command.{Command}
+use Rattle.tools_cli.specs.declared.order.Order.{Order}
+use Rattle.tools_cli.specs.declared.order.Order.TheVariants as orders
+use Rattle.tools_cli.specs.declared.table.Verb.{Verb}
+use Rattle.tools_cli.specs.declared.table.Verb.TheVariants as verbs
+use Rattle.tools_cli.specs.declared.table.OptionName.{OptionName}
+use Rattle.tools_cli.specs.declared.table.OptionName.TheVariants as names
+use Rattle.tools_cli.specs.declared.table.Kind.{Kind}
+use Rattle.tools_cli.specs.declared.table.Kind.TheVariants as kinds
+use Rattle.tools_cli.specs.declared.table.Value.{Value}
+use Rattle.tools_cli.specs.declared.table.Value.TheVariants as values
+use Rattle.tools_cli.specs.declared.table.Times.{Times}
+use Rattle.tools_cli.specs.declared.table.Times.TheVariants as times
+use Rattle.tools_cli.specs.declared.table.OptionRow.{OptionRow}
+use Rattle.tools_cli.specs.declared.table.Rule.{Rule}
+use Rattle.tools_cli.specs.declared.table.Rule.TheVariants as must
+use Rattle.tools_cli.specs.declared.words.Given.{Given}
 use Rattle.tools_cli.specs.declared.words.WordsFault.{WordsFault}
 use Rattle.tools_cli.specs.declared.words.WordsFault.TheVariants as faults
-use Rattle.tools_cli.specs.declared.words.Choice.{Choice}
-use Rattle.tools_cli.specs.declared.words.Choice.TheVariants as choices
 
 abbrev pub Meaning : Type 0
-Meaning = Result (Verb × List Choice) ℕ
+Meaning = Result Order ℕ
+
+-- The table.
 
 -- the first word of each command
 abbrev pub commands : List (List ℕ × Verb)
 commands = (codes "restore", verbs.Restore) ∷ (codes "--help", verbs.Help) ∷ (codes "--version", verbs.Version) ∷ []
 
--- the words that may stand behind it, each at most once
-abbrev pub options : Verb → List (List ℕ × Choice)
-options verbs.Restore = (codes "--archive", choices.Archive) ∷ (codes "--form=hex", choices.FormHex) ∷ (codes "--form=json", choices.FormJson) ∷ []
+-- an option's word is its name and directly behind it a value
+abbrev pub name_of : OptionName → List ℕ
+name_of names.Archive = codes "--archive"
+name_of names.Form = codes "--form="
+
+abbrev pub row : OptionName → Kind → Times → OptionRow
+row o k t = record { option = o; kind = k; times = t }
+
+-- the options that may stand behind a command, in any order
+abbrev pub options : Verb → List OptionRow
+options verbs.Restore = row names.Archive kinds.Nothing times.Once ∷ row names.Form kinds.Form times.Once ∷ []
 options verbs.Help = []
 options verbs.Version = []
 
--- those that must stand
-abbrev pub needed : Verb → List Choice
-needed verbs.Restore = choices.Archive ∷ []
-needed verbs.Help = []
-needed verbs.Version = []
+-- and what must hold of those that stand
+abbrev pub rules : Verb → List Rule
+rules verbs.Restore = must.Needed names.Archive ∷ []
+rules verbs.Help = []
+rules verbs.Version = []
 
--- whether two words are the same option, the form of the listing with any value
-abbrev pub same_option : Choice → Choice → Bool
-same_option choices.Archive choices.Archive = true
-same_option choices.Archive _ = false
-same_option _ choices.Archive = false
-same_option _ _ = true
-
-abbrev pub is_hex : Choice → Bool
-is_hex choices.FormHex = true
+-- the order of a command with these options: the form of the listing is JSON, where nothing else is said
+abbrev pub is_hex : Value → Bool
+is_hex (values.Form forms.Hex) = true
 is_hex _ = false
 
--- the form of the listing: JSON, where nothing else is said
-abbrev pub form_of : List Choice → ListForm
-form_of given = if list_any is_hex given then forms.Hex else forms.Json
+abbrev pub form_of : List Given → ListForm
+form_of given = if list_any (λ g. is_hex g.value) given then forms.Hex else forms.Json
 
-abbrev pub has : Choice → List Choice → Bool
-has c given = list_any (λ g. same_option c g) given
+abbrev pub order_of : Verb → List Given → Order
+order_of verbs.Restore given = orders.Restore (record { form = form_of given })
+order_of verbs.Help given = orders.Help
+order_of verbs.Version given = orders.Version
 
-abbrev pub is_complete : Verb → List Choice → Bool
-is_complete verb given = list_all (λ c. has c given) (needed verb)
+-- One word.
 
 -- what stands in a table beside this word
 abbrev pub row_of : {A : Type 0} → List (List ℕ × A) → List ℕ → Option A
 row_of [] w = None
 row_of (r ∷ rs) w = if bytes_eq w r.0 then Some r.1 else row_of rs w
 
+-- what stands behind a name in a word that begins with it
+abbrev pub behind : List ℕ → List ℕ → Option (List ℕ)
+behind name w = if bytes_eq (take (length name) w) name then Some (drop (length name) w) else None
+
+-- the value of this kind that a text is
+abbrev pub value_of : Kind → List ℕ → Option Value
+value_of kinds.Nothing text = row_of (([], values.Nothing) ∷ []) text
+value_of kinds.Form text = row_of ((codes "hex", values.Form forms.Hex) ∷ (codes "json", values.Form forms.Json) ∷ []) text
+
+abbrev pub given : OptionRow → Value → Given
+given r v = record { row = r; value = v }
+
+-- what a word is by this row
+abbrev pub given_in : OptionRow → List ℕ → Option Given
+given_in r w = option_map (given r) (option_and_then (value_of r.kind) (behind (name_of r.option) w))
+
+abbrev pub or_else : Option Given → Option Given → Option Given
+or_else None o = o
+or_else (Some g) o = Some g
+
+-- and by the first row that it fits
+abbrev pub first_row : List OptionRow → List ℕ → Option Given
+first_row [] w = None
+first_row (r ∷ rs) w = or_else (given_in r w) (first_row rs w)
+
+abbrev pub same_option : OptionName → OptionName → Bool
+same_option a b = bytes_eq (name_of a) (name_of b)
+
+-- how often an option stands
+abbrev pub times_given : OptionName → List Given → ℕ
+times_given o given = length (filter (λ g. same_option g.row.option o) given)
+
+abbrev pub stands : OptionName → List Given → Bool
+stands o given = not (nat_eq (times_given o given) 0)
+
+abbrev pub may_repeat : Times → Bool
+may_repeat times.Once = false
+may_repeat times.Any = true
+
+abbrev pub may_stand : Given → List Given → Bool
+may_stand g given = may_repeat g.row.times || not (stands g.row.option given)
+
+abbrev pub unless_spent : List Given → Option Given → Option Given
+unless_spent given None = None
+unless_spent given (Some g) = if may_stand g given then Some g else None
+
 -- the option that a word is behind those that were given, if it can stand there
-abbrev pub unless_given : List Choice → Option Choice → Option Choice
-unless_given given None = None
-unless_given given (Some c) = if has c given then None else Some c
+abbrev pub option_at : Verb → List Given → List ℕ → Option Given
+option_at verb given w = unless_spent given (first_row (options verb) w)
 
-abbrev pub choice_of : Verb → List Choice → List ℕ → Option Choice
-choice_of verb given w = unless_given given (row_of (options verb) w)
+-- All words.
 
--- go on with the option, or refuse this place
-abbrev pub at_place : ℕ → Option Choice → (Choice → Meaning) → Meaning
-at_place at None go_on = Err at
-at_place at (Some c) go_on = go_on c
+abbrev pub holds : Rule → List Given → Bool
+holds (must.Needed a) given = stands a given
+holds (must.Needs a b) given = not (stands a given) || stands b given
+holds (must.Excludes a b) given = not (stands a given) || not (stands b given)
+holds (must.Equal a b) given = nat_eq (times_given a given) (times_given b given)
 
--- the words from this place on, behind the options that were given
-unfoldable pub options_of : Verb → ℕ → List Choice → List (List ℕ) → Meaning
-options_of verb at given [] = if is_complete verb given then Ok (verb, given) else Err at
-options_of verb at given (w ∷ ws) = at_place at (choice_of verb given w) (λ c. options_of verb (at + 1) (given ++ c ∷ []) ws)
+abbrev pub hold : Verb → List Given → Bool
+hold verb given = list_all (λ r. holds r given) (rules verb)
 
--- the command and the words behind it
+-- one option more, or the place of this word: before it stand the command and the options that were given
+abbrev pub and_option : List Given → Option Given → Result (List Given) ℕ
+and_option given None = Err (1 + length given)
+and_option given (Some g) = Ok (given ++ g ∷ [])
+
+abbrev pub step : Verb → Result (List Given) ℕ → List ℕ → Result (List Given) ℕ
+step verb (Err at) w = Err at
+step verb (Ok given) w = and_option given (option_at verb given w)
+
+abbrev pub ordered : Verb → Result (List Given) ℕ → Meaning
+ordered verb (Err at) = Err at
+ordered verb (Ok given) = if hold verb given then Ok (order_of verb given) else Err (1 + length given)
+
+-- what the words behind a command mean
+abbrev pub meaning_behind : Verb → List (List ℕ) → Meaning
+meaning_behind verb ws = ordered verb (fold (step verb) (Ok []) ws)
+
 abbrev pub command_of : Option Verb → List (List ℕ) → Meaning
 command_of None ws = Err 0
-command_of (Some verb) ws = options_of verb 1 [] ws
+command_of (Some verb) ws = meaning_behind verb ws
 
 -- what all words mean
 abbrev pub meaning_of : List (List ℕ) → Meaning
@@ -91,7 +165,7 @@ abbrev pub texts_of : List (String Global) → List (List ℕ)
 texts_of ws = map string_bytes ws
 
 -- what was read is what the words mean, unless memory ran out
-abbrev pub Means : Result Command WordsFault → Meaning → Type 0
-Means (Ok c) meaning = meaning ≡ Ok (c.verb, c.choices.items)
+abbrev pub Means : Result Order WordsFault → Meaning → Type 0
+Means (Ok o) meaning = meaning ≡ Ok o
 Means (Err (faults.Usage at)) meaning = meaning ≡ Err at
 Means (Err faults.NoMemory) meaning = Unit {0}

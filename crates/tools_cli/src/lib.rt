@@ -2,13 +2,15 @@
 #![tactic(auto)]
 
 mod listing;
+mod order;
 mod report;
 mod status;
+mod table;
 mod texts;
 mod top;
 mod words;
 
+pub use order::{Order, RestoreOrder};
 pub use status::{ArchiveFault, Status};
 pub use texts::{HELP, VERSION};
 pub use top::tools;
-pub use words::{Choice, Command, Verb, WordsFault};

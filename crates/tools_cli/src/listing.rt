@@ -3,8 +3,8 @@ ghost use Rattle.std.specs.Prelude.{◌≡◌, Ok};
 ghost use Rattle.tools_cli.specs.Ends.{turn};
 ghost use Rattle.tools_cli.specs.Answers.{Says};
 
+use crate::order::{Order, RestoreOrder};
 use crate::status::{ArchiveFault, Status};
-use crate::words::{Command, Verb};
 use restore_base::{RestoreFault, Stop, restore};
 use std::alloc::Global;
 use tool_io::{Fault, Sink, Source};
@@ -12,17 +12,16 @@ use tool_io::{Fault, Sink, Source};
 /// Reads an archive from the input, and lists on the output what it restores to.
 pub fn list_archive<S: Source, K: Sink>(
     alloc: Global,
-    command: &Command,
+    order: &RestoreOrder,
     input: &mut S,
     output: &mut K,
 ) -> Status
-    requires { command.now.verb ≡ Verb.Restore }
-    ensures { Says (Ok (command.now.verb, command.now.choices.items)) result
+    ensures { Says (Ok (Order.Restore order.now)) result
         (turn (S.left input.old) (S.faults input.old) (S.left input.new) (S.faults input.new))
         (turn (K.written output.old) (K.faults output.old) (K.written output.new) (K.faults output.new)) }
 {
     match restore(alloc, input) {
-        Ok(collections) => match collections.list(alloc, command.form(), output) {
+        Ok(collections) => match collections.list(alloc, order.form, output) {
             Ok(()) => Status::Done,
             Err(Fault::Failed) => Status::WriteFault,
             Err(Fault::NoMemory) => Status::NoMemory,

@@ -5,11 +5,12 @@ ghost use Rattle.tools_cli.specs.Ends.{turn};
 ghost use Rattle.tools_cli.specs.Answers.{Says, Shown, Answers};
 
 use crate::listing::list_archive;
+use crate::order::Order;
 use crate::report::tell;
 use crate::status::Status;
 use crate::texts::{HELP, VERSION};
 use crate::words;
-use crate::words::{Command, Verb, WordsFault};
+use crate::words::WordsFault;
 use std::alloc::Global;
 use tool_io::{Fault, Sink, Source};
 
@@ -25,20 +26,15 @@ fn show<K: Sink>(text: &str, output: &mut K) -> Status
 }
 
 // What the command does, without its line on the report.
-fn perform<S: Source, K: Sink>(
-    alloc: Global,
-    command: &Command,
-    input: &mut S,
-    output: &mut K,
-) -> Status
-    ensures { Says (Ok (command.now.verb, command.now.choices.items)) result
+fn perform<S: Source, K: Sink>(alloc: Global, order: Order, input: &mut S, output: &mut K) -> Status
+    ensures { Says (Ok order) result
         (turn (S.left input.old) (S.faults input.old) (S.left input.new) (S.faults input.new))
         (turn (K.written output.old) (K.faults output.old) (K.written output.new) (K.faults output.new)) }
 {
-    match command.verb {
-        Verb::Restore => list_archive(alloc, command, input, output),
-        Verb::Help => show(HELP, output),
-        Verb::Version => show(VERSION, output),
+    match order {
+        Order::Restore(order) => list_archive(alloc, &order, input, output),
+        Order::Help => show(HELP, output),
+        Order::Version => show(VERSION, output),
     }
 }
 
@@ -49,7 +45,7 @@ fn run<S: Source, K: Sink>(alloc: Global, words: &[String], input: &mut S, outpu
         (turn (K.written output.old) (K.faults output.old) (K.written output.new) (K.faults output.new)) }
 {
     match words::read(alloc, words) {
-        Ok(command) => perform(alloc, &command, input, output),
+        Ok(order) => perform(alloc, order, input, output),
         Err(WordsFault::Usage { word }) => Status::Usage { word },
         Err(WordsFault::NoMemory) => Status::NoMemory,
     }

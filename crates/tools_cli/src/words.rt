@@ -1,51 +1,18 @@
 //! The words of the command line.
-ghost use Rattle.std.specs.Prelude.{◌≡◌, ◌+◌, ◌<◌, ◌^◌, [], length, Ok, Err};
-ghost use Rattle.std.specs.List.{list_any};
-ghost use Rattle.tools_cli.specs.Words.{Meaning, commands, options, needed, same_option, is_hex, form_of, has, is_complete, row_of, choice_of, options_of, meaning_of, texts_of, Means};
+ghost use Rattle.std.specs.Prelude.{◌≡◌, ◌+◌, ◌<◌, ◌^◌, [], length, option_map, Ok, Err};
+ghost use Rattle.std.specs.List.{list_any, list_all};
+ghost use Rattle.tools_cli.specs.Words.{behind, value_of, given_in, first_row, may_stand, option_at, times_given, holds, hold, is_hex, form_of, order_of, step, meaning_behind, meaning_of, same_option, options, rules, texts_of, Means};
 
+use crate::order::{Order, RestoreOrder};
+use crate::table::{Kind, OptionName, OptionRow, Rule, Times, Value, Verb};
 use state_listing::ListForm;
 use std::alloc::{AllocError, AllocFailed, Global};
 
-/// What a command does.
+/// An option that stands, with its value.
 #[derive(Clone, Copy, Debug, PartialEq, Eq)]
-pub enum Verb {
-    Restore,
-    Help,
-    Version,
-}
-
-/// An option of a command.
-#[derive(Clone, Copy, Debug, PartialEq, Eq)]
-pub enum Choice {
-    Archive,
-    FormHex,
-    FormJson,
-}
-
-/// A command and its options, in the order in which they stand.
-#[derive(Debug, Drop)]
-pub struct Command {
-    pub verb: Verb,
-    pub choices: Vec<Choice>,
-}
-
-impl Command {
-    fn has_hex(&self) -> bool
-        ensures { result ≡ list_any is_hex self.now.choices.items }
-    {
-        self.choices.iter().any(|choice| choice.is_hex())
-    }
-
-    /// How documents are listed: as JSON, where nothing else is said.
-    pub fn form(&self) -> ListForm
-        ensures { result ≡ form_of self.now.choices.items }
-    {
-        if self.has_hex() {
-            ListForm::Hex
-        } else {
-            ListForm::Json
-        }
-    }
+pub struct Given {
+    pub row: OptionRow,
+    pub value: Value,
 }
 
 /// Why words are no command.
@@ -76,114 +43,166 @@ impl<T: Drop> From<AllocFailed<T>> for WordsFault {
     }
 }
 
-impl Choice {
-    fn is_same(self, other: Choice) -> bool
-        ensures { result ≡ same_option self other }
-    {
-        match (self, other) {
-            (Choice::Archive, Choice::Archive) => true,
-            (Choice::Archive, _) => false,
-            (_, Choice::Archive) => false,
-            (_, _) => true,
-        }
-    }
-
-    fn is_hex(self) -> bool
-        ensures { result ≡ is_hex self }
-    {
-        matches!(self, Choice::FormHex)
-    }
-
-    fn is_among(self, given: &[Choice]) -> bool
-        ensures { result ≡ has self given.now }
-    {
-        given.iter().any(|other| self.is_same(*other))
-    }
+// What stands behind a name in a word that begins with it.
+fn behind<'a>(name: &str, word: &'a str) -> Option<&'a str>
+    ensures { option_map (λ r. r.now) result ≡ behind name.now word.now }
+{
+    word.strip_prefix(name)
 }
 
-// The command that the first word names.
-fn verb_of(word: &str) -> Option<Verb>
-    ensures { result ≡ row_of commands word.now }
+// The value that a text is.
+fn value_of(kind: Kind, text: &str) -> Option<Value>
+    ensures { result ≡ value_of kind text.now }
 {
-    match word {
-        "restore" => Some(Verb::Restore),
-        "--help" => Some(Verb::Help),
-        "--version" => Some(Verb::Version),
-        _ => None,
-    }
-}
-
-// The option that a word is behind this command.
-fn option_of(verb: Verb, word: &str) -> Option<Choice>
-    ensures { result ≡ row_of (options verb) word.now }
-{
-    match verb {
-        Verb::Restore => match word {
-            "--archive" => Some(Choice::Archive),
-            "--form=hex" => Some(Choice::FormHex),
-            "--form=json" => Some(Choice::FormJson),
+    match kind {
+        Kind::Nothing => match text {
+            "" => Some(Value::Nothing),
             _ => None,
         },
-        Verb::Help | Verb::Version => None,
+        Kind::Form => match text {
+            "hex" => Some(Value::Form(ListForm::Hex)),
+            "json" => Some(Value::Form(ListForm::Json)),
+            _ => None,
+        },
     }
 }
 
-fn needed(verb: Verb) -> &'static [Choice]
-    ensures { result.now ≡ needed verb }
+// What a word is by this row.
+fn given_in(row: OptionRow, word: &str) -> Option<Given>
+    ensures { result ≡ given_in row word.now }
 {
-    match verb {
-        Verb::Restore => &[Choice::Archive],
-        Verb::Help | Verb::Version => &[],
+    match behind(row.option.name(), word) {
+        Some(text) => match value_of(row.kind, text) {
+            Some(value) => Some(Given { row, value }),
+            None => None,
+        },
+        None => None,
     }
 }
 
-fn is_complete(verb: Verb, given: &[Choice]) -> bool
-    ensures { result ≡ is_complete verb given.now }
+// What a word is by the first row that it fits.
+fn first_row(rows: &[OptionRow], word: &str) -> Option<Given>
+    ensures { result ≡ first_row rows.now word.now }
 {
-    needed(verb).iter().all(|choice| choice.is_among(given))
+    let mut rest = rows;
+    'rows: while let Some((row, behind)) = rest.split_first() {
+        if let Some(given) = given_in(*row, word) {
+            return Some(given);
+        }
+        rest = behind;
+    }
+    None
 }
 
-fn choice_of(verb: Verb, given: &[Choice], word: &str) -> Option<Choice>
-    ensures { result ≡ choice_of verb given.now word.now }
+// How often an option stands.
+fn times_given(option: OptionName, given: &[Given]) -> usize
+    ensures { result ≡ times_given option given.now }
 {
-    match option_of(verb, word) {
-        Some(choice) if !choice.is_among(given) => Some(choice),
+    given
+        .iter()
+        .filter(|g| g.row.option.is_same(option))
+        .count()
+}
+
+fn may_stand(next: &Given, given: &[Given]) -> bool
+    ensures { result ≡ may_stand next.now given.now }
+{
+    match next.row.times {
+        Times::Any => true,
+        Times::Once => times_given(next.row.option, given) == 0,
+    }
+}
+
+// The option that a word is behind these, if it can stand there.
+fn option_at(verb: Verb, given: &[Given], word: &str) -> Option<Given>
+    ensures { result ≡ option_at verb given.now word.now }
+{
+    match first_row(verb.options(), word) {
+        Some(next) if may_stand(&next, given) => Some(next),
         _ => None,
     }
 }
 
-#[tactic(auto, unfolding(crate::specs::Words::options_of))]
-fn read_options(alloc: Global, verb: Verb, words: &[String]) -> Result<Command, WordsFault>
-    requires { length words.now + 1 < 2 ^ 64 }
-    ensures { Means result (options_of verb 1 [] (texts_of words.now)) }
+fn holds(rule: Rule, given: &[Given]) -> bool
+    ensures { result ≡ holds rule given.now }
 {
-    let mut choices = Vec::new(alloc);
+    match rule {
+        Rule::Needed(option) => times_given(option, given) != 0,
+        Rule::Needs(option, other) => {
+            times_given(option, given) == 0 || times_given(other, given) != 0
+        }
+        Rule::Excludes(option, other) => {
+            times_given(option, given) == 0 || times_given(other, given) == 0
+        }
+        Rule::Equal(option, other) => times_given(option, given) == times_given(other, given),
+    }
+}
+
+fn hold(verb: Verb, given: &[Given]) -> bool
+    ensures { result ≡ hold verb given.now }
+{
+    verb.rules().iter().all(|rule| holds(*rule, given))
+}
+
+fn has_hex(given: &[Given]) -> bool
+    ensures { result ≡ list_any (λ g. is_hex g.value) given.now }
+{
+    given.iter().any(|g| g.value.is_hex())
+}
+
+fn form_of(given: &[Given]) -> ListForm
+    ensures { result ≡ form_of given.now }
+{
+    if has_hex(given) {
+        ListForm::Hex
+    } else {
+        ListForm::Json
+    }
+}
+
+fn order_of(verb: Verb, given: &[Given]) -> Order
+    ensures { result ≡ order_of verb given.now }
+{
+    match verb {
+        Verb::Restore => Order::Restore(RestoreOrder {
+            form: form_of(given),
+        }),
+        Verb::Help => Order::Help,
+        Verb::Version => Order::Version,
+    }
+}
+
+fn read_behind(alloc: Global, verb: Verb, words: &[String]) -> Result<Order, WordsFault>
+    requires { length words.now + 1 < 2 ^ 64 }
+    ensures { Means result (meaning_behind verb (texts_of words.now)) }
+{
+    let mut given = Vec::new(alloc);
     let mut at = 1;
     let mut rest = words;
     'words: while let Some((word, behind)) = rest.split_first() {
-        match choice_of(verb, &choices, word.as_str()) {
-            Some(choice) => choices.push(choice)?,
+        match option_at(verb, &given, word.as_str()) {
+            Some(next) => given.push(next)?,
             None => return Err(WordsFault::Usage { word: at }),
         }
         at += 1;
         rest = behind;
     }
-    if is_complete(verb, &choices) {
-        Ok(Command { verb, choices })
+    if hold(verb, &given) {
+        Ok(order_of(verb, &given))
     } else {
         Err(WordsFault::Usage { word: at })
     }
 }
 
-/// What the words mean: a command, or else the first word that can't stand where it stands.
-pub fn read(alloc: Global, words: &[String]) -> Result<Command, WordsFault>
+/// What the words mean: an order, or else the first word that can't stand where it stands.
+pub fn read(alloc: Global, words: &[String]) -> Result<Order, WordsFault>
     ensures { Means result (meaning_of (texts_of words.now)) }
 {
     let Some((first, rest)) = words.split_first() else {
         return Err(WordsFault::Usage { word: 0 });
     };
-    match verb_of(first.as_str()) {
-        Some(verb) => read_options(alloc, verb, rest),
+    match Verb::of(first.as_str()) {
+        Some(verb) => read_behind(alloc, verb, rest),
         None => Err(WordsFault::Usage { word: 0 }),
     }
 }

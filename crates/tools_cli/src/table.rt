@@ -1,0 +1,132 @@
+//! The commands, their options, and the rules of these.
+ghost use Rattle.std.specs.Prelude.{◌≡◌, bytes_eq};
+ghost use Rattle.tools_cli.specs.Words.{is_hex, name_of, commands, options, rules, same_option, row_of};
+
+use state_listing::ListForm;
+
+/// What the first word names.
+#[derive(Clone, Copy, Debug, PartialEq, Eq)]
+pub enum Verb {
+    Restore,
+    Help,
+    Version,
+}
+
+/// An option of a command.
+#[derive(Clone, Copy, Debug, PartialEq, Eq)]
+pub enum OptionName {
+    Archive,
+    Form,
+}
+
+/// The kind of value that stands in an option's word directly behind its name.
+#[derive(Clone, Copy, Debug, PartialEq, Eq)]
+pub enum Kind {
+    Nothing,
+    Form,
+}
+
+/// The value of an option.
+#[derive(Clone, Copy, Debug, PartialEq, Eq)]
+pub enum Value {
+    Nothing,
+    Form(ListForm),
+}
+
+/// How often an option may stand.
+#[derive(Clone, Copy, Debug, PartialEq, Eq)]
+pub enum Times {
+    Once,
+    Any,
+}
+
+/// A row of the table: an option that may stand behind a command. A word without a name, as a number alone, is an option with the
+/// empty name.
+#[derive(Clone, Copy, Debug, PartialEq, Eq)]
+pub struct OptionRow {
+    pub option: OptionName,
+    pub kind: Kind,
+    pub times: Times,
+}
+
+/// What the options of a command must meet once all were read.
+#[derive(Clone, Copy, Debug, PartialEq, Eq)]
+pub enum Rule {
+    /// This option stands.
+    Needed(OptionName),
+    /// The first stands only beside the second.
+    Needs(OptionName, OptionName),
+    /// They don't stand together.
+    Excludes(OptionName, OptionName),
+    /// They stand equally often.
+    Equal(OptionName, OptionName),
+}
+
+impl Value {
+    pub fn is_hex(self) -> bool
+        ensures { result ≡ is_hex self }
+    {
+        matches!(self, Value::Form(ListForm::Hex))
+    }
+}
+
+impl OptionName {
+    /// The front of the option's word: all of it, or what stands before its value.
+    pub fn name(self) -> &'static str
+        ensures { result.now ≡ name_of self }
+    {
+        match self {
+            OptionName::Archive => "--archive",
+            OptionName::Form => "--form=",
+        }
+    }
+
+    pub fn is_same(self, other: OptionName) -> bool
+        ensures { result ≡ same_option self other }
+    {
+        self.name() == other.name()
+    }
+}
+
+impl Verb {
+    /// The command that a word names.
+    pub fn of(word: &str) -> Option<Verb>
+        ensures { result ≡ row_of commands word.now }
+    {
+        match word {
+            "restore" => Some(Verb::Restore),
+            "--help" => Some(Verb::Help),
+            "--version" => Some(Verb::Version),
+            _ => None,
+        }
+    }
+
+    pub fn options(self) -> &'static [OptionRow]
+        ensures { result.now ≡ options self }
+    {
+        match self {
+            Verb::Restore => &[
+                OptionRow {
+                    option: OptionName::Archive,
+                    kind: Kind::Nothing,
+                    times: Times::Once,
+                },
+                OptionRow {
+                    option: OptionName::Form,
+                    kind: Kind::Form,
+                    times: Times::Once,
+                },
+            ],
+            Verb::Help | Verb::Version => &[],
+        }
+    }
+
+    pub fn rules(self) -> &'static [Rule]
+        ensures { result.now ≡ rules self }
+    {
+        match self {
+            Verb::Restore => &[Rule::Needed(OptionName::Archive)],
+            Verb::Help | Verb::Version => &[],
+        }
+    }
+}
