@@ -7,13 +7,12 @@ ghost use Rattle.archive_format.specs.Crc.{crc_on};
 ghost use Rattle.archive_format.specs.Written.{joined, head_text, block_text, end_text, begun, with_documents, HeadFits};
 
 use crate::crc::Crc;
+use archive_format::TERMINATOR;
 use bson_encode::encode;
 use bson_value::{Bytes, CText, Doc, List, NsName, Value};
 use std::alloc::{AllocError, Global};
 use std::marker::Model;
 use tool_io::{Fault, Sink};
-
-const STOP: [u8; 4] = [255, 255, 255, 255];
 
 fn add(alloc: Global, doc: &mut Doc, name: &str, value: Value) -> Result<(), AllocError>
     requires no_zero { Contains name.now 0 → ⊥ }
@@ -103,7 +102,7 @@ impl BlockWriter {
         let head = head(self.alloc, &self.ns, false, 0)?;
         sink.write(head.as_slice())?;
         write_all(docs.as_slice(), &mut self.sum, sink)?;
-        sink.write(&STOP)
+        sink.write(&TERMINATOR)
     }
 
     /// Writes the end of the namespace, with the checksum of the documents of all its blocks, in one write. Behind an
@@ -116,7 +115,7 @@ impl BlockWriter {
         ensures failed { IsErrOf result Fault.Failed → Rose (K.faults sink.old) (K.faults sink.new) }
     {
         let mut bytes = head(self.alloc, &self.ns, true, self.sum.sum().cast_signed())?;
-        bytes.extend_from_slice(&STOP)?;
+        bytes.extend_from_slice(&TERMINATOR)?;
         sink.write(bytes.as_slice())
     }
 }

@@ -3,6 +3,7 @@
 
 mod fault;
 mod laws;
+mod marks;
 mod names;
 mod place;
 
@@ -11,5 +12,6 @@ pub use laws::{
     content_or_fault, crc_by_parts, headers_are_read, heads_are_read, metas_are_read, one_end,
     written_sizes,
 };
-pub use names::is_namespace;
+pub use marks::{MAGIC, TERMINATOR};
+pub use names::{is_namespace, is_oplog};
 pub use place::Place;

@@ -7,14 +7,11 @@ ghost use Rattle.archive_format.specs.Written.{header_text, meta_text, prelude_t
 ghost use Rattle.archive_prelude.specs.Parts.{header_of_prelude, metadata_of, PreludeFits};
 
 use crate::prelude::{Meta, Prelude};
+use archive_format::{MAGIC, TERMINATOR};
 use bson_encode::encode;
 use bson_value::{Bytes, CText, Doc, Text, Value};
 use std::alloc::{AllocError, Global};
 use tool_io::{Fault, Sink};
-
-const MAGIC: [u8; 4] = [0x6d, 0xe2, 0x99, 0x81];
-
-const STOP: [u8; 4] = [255, 255, 255, 255];
 
 fn add(alloc: Global, doc: &mut Doc, name: &str, value: Value) -> Result<(), AllocError>
     requires no_zero { Contains name.now 0 → ⊥ }
@@ -91,5 +88,5 @@ pub fn write<K: Sink>(alloc: Global, prelude: &Prelude, sink: &mut K) -> Result<
     front.extend_from_slice(header(alloc, prelude)?.as_slice())?;
     sink.write(front.as_slice())?;
     write_metas(alloc, prelude.metas.as_slice(), sink)?;
-    sink.write(&STOP)
+    sink.write(&TERMINATOR)
 }

@@ -1,21 +1,17 @@
 //! The steps of the grammar, one item at a time.
 ghost use Rattle.std.specs.Prelude.{◌≡◌, ◌∷◌, [], true, Some, ◌<◌, length, is_some, None, IsErrOf, IfErr, IfSome, OnOk, slice_get, option_map};
 ghost use Rattle.std.specs.Option.{option_copied};
-ghost use Rattle.archive_format.specs.Shapes.{named, is_oplog};
+ghost use Rattle.archive_format.specs.Shapes.{named};
 ghost use Rattle.archive_format.specs.Archive.{Seen as Entry, goes, closed_entry, magic, document, step_at, sound, header_step, meta_step, head_step, doc_step, end_step, early, lengthy, size_of, number, is_stop, is_magic, meta_place, seat_of, bad, opened, opened_entry, behind, header_in, metadata_in, head_in, fault_in, IsNew, doc, end};
 ghost use Rattle.demux.specs.Steps.{stage_of, Quiet, Refused, Notes, Names};
 
 use crate::documents::{checked, head, is_header, metadata};
 use crate::progress::Progress;
 use crate::taker::Halt;
-use archive_format::{DemuxFault, Place};
+use archive_format::{DemuxFault, MAGIC, Place, TERMINATOR, is_oplog};
 use archive_prelude::Meta;
 use bson_check::BsonKind;
 use bson_value::NsName;
-
-const MAGIC: [u8; 4] = [0x6d, 0xe2, 0x99, 0x81];
-
-const STOP: [u8; 4] = [255, 255, 255, 255];
 
 pub fn is_magic(word: &[u8]) -> bool
     ensures { result ≡ is_magic word.now }
@@ -26,7 +22,7 @@ pub fn is_magic(word: &[u8]) -> bool
 pub fn is_stop(word: &[u8]) -> bool
     ensures { result ≡ is_stop word.now }
 {
-    word == STOP.as_slice()
+    word == TERMINATOR.as_slice()
 }
 
 // The number that four bytes spell.
@@ -125,12 +121,6 @@ pub fn halted(halt: Halt) -> DemuxFault
         Halt::Stopped => DemuxFault::Stopped,
         Halt::NoMemory => DemuxFault::NoMemory,
     }
-}
-
-fn is_oplog(ns: &NsName) -> bool
-    ensures { result ≡ is_oplog ns.now }
-{
-    ns.db.as_str() == "" && ns.coll.as_str() == "oplog"
 }
 
 fn behind(eof: bool, crc: Option<i64>, i: usize) -> Place
