@@ -1,13 +1,13 @@
 //! The takings of an archive that make collections.
 ghost use Rattle.std.specs.Prelude.{◌≡◌, ◌++◌, ◌∷◌, [], OnOk, OnErr, IfOk, IfErr, IsOk, IsTrue, Some, None, true};
 ghost use Rattle.archive_format.specs.Archive.{meta, doc, end, fault_in};
-ghost use Rattle.archive_format.specs.Shapes.{is_oplog};
 ghost use Rattle.std.specs.Result.{ForOk};
 ghost use Rattle.restore_base.specs.Base.{first_stop, stop_at, ns_of};
 ghost use Rattle.restore_base.specs.Kept.{taking_of, takings_in, is_sound, are_sound};
 
 use crate::id::has_id;
 use crate::names::Names;
+use archive_format::is_oplog;
 use bson_value::{Bytes, NsName, Text};
 use demux::{DocTaker, Halt};
 use metadata_text::{MetaFault, metadata_of};
@@ -55,12 +55,6 @@ pub struct Collections {
     starved: bool,
     ghost taken: { first_stop (takings_in takings.items) ≡ None },
     ghost sound: { IsTrue (are_sound takings.items) },
-}
-
-fn is_oplog(ns: &NsName) -> bool
-    ensures { result ≡ is_oplog ns.now }
-{
-    ns.db.is_empty() && ns.coll.as_str() == "oplog"
 }
 
 impl Collections {
