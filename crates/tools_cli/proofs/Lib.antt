@@ -1,5 +1,6 @@
-pub mod Codes
-pub mod Telling
-pub mod Reading
 pub mod Behind
+pub mod Due
+pub mod Numbers
+pub mod Reading
 pub mod Stopped
+pub mod Telling

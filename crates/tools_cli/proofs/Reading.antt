@@ -1,15 +1,11 @@
--- What was read where nothing was, and where all was.
+-- What was read of the input of `restore`, and what its outcome is.
 use Rattle.std.proofs.Common.{◌≡◌, ◌⊎◌, ℕ, List, inl, inr}
-use Rattle.std.specs.Prelude.{Option, Some, None, [], Ok, Err}
-use Rattle.demux.proofs.Begin.{keeps_same}
+use Rattle.std.specs.Prelude.{Option, Some, None, []}
 use Rattle.state_listing.specs.Listing.{State}
-use Rattle.restore_base.specs.Outcome.{IsOutcome, IsReadTo, OnInput, restores}
-use Rattle.restore_base.proofs.Outcomes.{unread}
-use Rattle.tools_cli.specs.declared.order.Order.{Order}
-use Rattle.tools_cli.specs.declared.order.Order.TheVariants as orders
-use Rattle.tools_cli.specs.Words.{Meaning}
-use Rattle.tools_cli.specs.Ends.{turn}
-use Rattle.tools_cli.specs.Answers.{ReadSome, ReadAtMost}
+use Rattle.restore_base.specs.Outcome.{Outcome, IsOutcome, IsReadTo, IsRefused, OnInput, restores}
+use Rattle.restore_base.proofs.Outcomes.{unread, refused_once}
+use Rattle.tools_cli.specs.Ends.{Turn, End}
+use Rattle.tools_cli.specs.RestoreAnswers.{ReadsSome, Refused, HasOutcome}
 
 pub all_read : (o now : Option (List ℕ)) (s : State) → OnInput o (λ all. (now ≡ Some []) × IsOutcome all (restores s)) → OnInput o (λ all. (now ≡ Some []) ⊎ IsReadTo all now)
 all_read None now s h = tt
@@ -19,11 +15,16 @@ some_read : (o now : Option (List ℕ)) → OnInput o (λ all. IsReadTo all now)
 some_read None now h = tt
 some_read (Some all) now h = inr h
 
-none_read : (o : Order) (x : Option (List ℕ)) (f : ℕ) → ReadSome o (turn x f x f)
-none_read (orders.Restore o) x f = some_read x x (unread x)
-none_read orders.Help x f = keeps_same x
-none_read orders.Version x f = keeps_same x
+pub none_read : (e : End) → ReadsSome (record { before = e; after = e })
+none_read e = some_read e.bytes e.bytes (unread e.bytes)
 
-pub none_read_at_most : (m : Meaning) (x : Option (List ℕ)) (f : ℕ) → ReadAtMost m (turn x f x f)
-none_read_at_most (Ok o) x f = none_read o x f
-none_read_at_most (Err at) x f = keeps_same x
+pub outcome : (o now : Option (List ℕ)) (s : State) → OnInput o (λ all. (now ≡ Some []) × IsOutcome all (restores s)) → OnInput o (λ all. IsOutcome all (restores s))
+outcome None now s h = tt
+outcome (Some all) now s h = h.1
+
+-- an input that is refused has that outcome
+pub refused : (i : Turn) (o : Outcome) → Refused i o → HasOutcome i o
+refused i o h = go i.before.bytes h where
+  go : (known : Option (List ℕ)) → OnInput known (λ all. IsRefused all i.after.bytes o) → OnInput known (λ all. IsOutcome all o)
+  go None r = tt
+  go (Some all) r = refused_once all i.after.bytes o r

@@ -1,6 +1,6 @@
 -- The ends that a call is lent, before and after it.
-use Rattle.std.specs.Prelude.{◌⊎◌, ℕ, List, Option}
-use Rattle.std.specs.Io.KnownBytes.{Appends, Keeps, IsAtEnd, Consumes}
+use Rattle.std.specs.Prelude.{◌≡◌, ◌⊎◌, ℕ, List, Option}
+use Rattle.std.specs.Io.KnownBytes.{Appends, Keeps}
 use Rattle.tool_io.specs.Causes.{Rose, AppendsFront}
 
 -- what an end tells, the bytes that are left or written, and its count of faults
@@ -12,12 +12,20 @@ pub record Turn : Type 0 where
   pub before : End
   pub after : End
 
-abbrev pub turn : Option (List ℕ) → ℕ → Option (List ℕ) → ℕ → Turn
-turn bytes faults bytes' faults' = record { before = record { bytes = bytes; faults = faults }; after = record { bytes = bytes'; faults = faults' } }
+-- what an end tells by these two
+abbrev pub end_of : {X : Type 0} → (X → Option (List ℕ)) → (X → ℕ) → X → End
+end_of bytes faults x = record { bytes = bytes x; faults = faults x }
+
+abbrev pub turn : {X : Type 0} → (X → Option (List ℕ)) → (X → ℕ) → X → X → Turn
+turn bytes faults old new = record { before = end_of bytes faults old; after = end_of bytes faults new }
 
 -- nothing was read or written
 abbrev pub Same : Turn → Type 0
 Same t = Keeps t.before.bytes t.after.bytes
+
+-- nothing was done at all
+abbrev pub Untouched : Turn → Type 0
+Untouched t = t.after ≡ t.before
 
 -- the count of faults rose
 abbrev pub Failed : Turn → Type 0
@@ -34,8 +42,3 @@ WritesFront t bytes = AppendsFront t.before.bytes t.after.bytes bytes
 -- this line was written, or some front of it where a write failed
 abbrev pub Tells : Turn → List ℕ → Type 0
 Tells t line = Writes t line ⊎ (WritesFront t line × Failed t)
-
--- these bytes were read, and they are the whole input
-pub record ReadsWhole (t : Turn) (bytes : List ℕ) : Type 0 where
-  pub taken : Consumes t.before.bytes t.after.bytes bytes
-  pub ended : IsAtEnd t.after.bytes

@@ -1,4 +1,4 @@
--- The number of each status, and its line on the report.
+-- The line of each status on the report.
 use Rattle.std.specs.Prelude.{ℕ, List, [], ◌∷◌, ◌++◌, codes}
 use Rattle.std.specs.Fmt.{decimal}
 use Rattle.std.specs.Int.{w64, to_be_bytes}
@@ -13,15 +13,6 @@ use Rattle.tools_cli.specs.declared.status.ArchiveFault.{ArchiveFault}
 use Rattle.tools_cli.specs.declared.status.ArchiveFault.TheVariants as refusals
 use Rattle.tools_cli.specs.declared.status.Status.{Status}
 use Rattle.tools_cli.specs.declared.status.Status.TheVariants as is
-
-abbrev pub code_of : Status → ℕ
-code_of is.Done = 0
-code_of (is.Usage at) = 1
-code_of (is.BadArchive f) = 3
-code_of is.ReadFault = 9
-code_of is.WriteFault = 10
-code_of is.NoMemory = 11
-code_of is.Unbuilt = 12
 
 abbrev pub line : List ℕ → List ℕ
 line text = text ++ 10 ∷ []

@@ -11,6 +11,6 @@ mod top;
 mod words;
 
 pub use order::{Order, RestoreOrder};
-pub use status::{ArchiveFault, Status};
+pub use status::{ArchiveFault, Status, numbers_tell_apart};
 pub use texts::{HELP, VERSION};
 pub use top::tools;

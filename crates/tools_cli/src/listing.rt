@@ -1,9 +1,9 @@
 //! The restore of an archive, and the listing of what it gives.
-ghost use Rattle.std.specs.Prelude.{◌≡◌, Ok};
+ghost use Rattle.std.specs.Prelude.{◌≡◌};
 ghost use Rattle.tools_cli.specs.Ends.{turn};
-ghost use Rattle.tools_cli.specs.Answers.{Says};
+ghost use Rattle.tools_cli.specs.RestoreAnswers.{RestoreSays};
 
-use crate::order::{Order, RestoreOrder};
+use crate::order::RestoreOrder;
 use crate::status::{ArchiveFault, Status};
 use restore_base::{RestoreFault, Stop, restore};
 use std::alloc::Global;
@@ -16,9 +16,9 @@ pub fn list_archive<S: Source, K: Sink>(
     input: &mut S,
     output: &mut K,
 ) -> Status
-    ensures { Says (Ok (Order.Restore order.now)) result
-        (turn (S.left input.old) (S.faults input.old) (S.left input.new) (S.faults input.new))
-        (turn (K.written output.old) (K.faults output.old) (K.written output.new) (K.faults output.new)) }
+    ensures { RestoreSays order.now result
+        (turn S.left S.faults input.old input.new)
+        (turn K.written K.faults output.old output.new) }
 {
     match restore(alloc, input) {
         Ok(collections) => match collections.list(alloc, order.form, output) {

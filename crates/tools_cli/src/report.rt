@@ -14,8 +14,8 @@ use tool_io::{Fault, Sink};
 // Tells the line of a status. Where that finds no memory, that is the status.
 fn tell_line<R: Sink>(report: &mut R, line: &[u8], status: Status) -> Status
     requires { line.now ≡ line_of status }
-    ensures { ((result ≡ status) × Tells (turn (R.written report.old) (R.faults report.old) (R.written report.new) (R.faults report.new)) (line_of status))
-        ⊎ ((result ≡ Status.NoMemory) × RunsOut status (turn (R.written report.old) (R.faults report.old) (R.written report.new) (R.faults report.new))) }
+    ensures { ((result ≡ status) × Tells (turn R.written R.faults report.old report.new) (line_of status))
+        ⊎ ((result ≡ Status.NoMemory) × RunsOut status (turn R.written R.faults report.old report.new)) }
 {
     match report.write(line) {
         Ok(()) | Err(Fault::Failed) => status,
@@ -147,8 +147,8 @@ fn usage_line(alloc: Global, word: usize) -> Result<String, AllocError>
 // Tells a text that was made for this status, if there was memory for it.
 fn tell_text<R: Sink>(report: &mut R, text: Result<String, AllocError>, status: Status) -> Status
     requires { IfOk text (λ s. string_bytes s ≡ line_of status) }
-    ensures { ((result ≡ status) × Tells (turn (R.written report.old) (R.faults report.old) (R.written report.new) (R.faults report.new)) (line_of status))
-        ⊎ ((result ≡ Status.NoMemory) × RunsOut status (turn (R.written report.old) (R.faults report.old) (R.written report.new) (R.faults report.new))) }
+    ensures { ((result ≡ status) × Tells (turn R.written R.faults report.old report.new) (line_of status))
+        ⊎ ((result ≡ Status.NoMemory) × RunsOut status (turn R.written R.faults report.old report.new)) }
 {
     match text {
         Ok(text) => tell_line(report, text.as_bytes(), status),
@@ -157,8 +157,8 @@ fn tell_text<R: Sink>(report: &mut R, text: Result<String, AllocError>, status: 
 }
 
 fn tell_refusal<R: Sink>(alloc: Global, fault: ArchiveFault, report: &mut R) -> Status
-    ensures { ((result ≡ Status.BadArchive fault) × Tells (turn (R.written report.old) (R.faults report.old) (R.written report.new) (R.faults report.new)) (line_of (Status.BadArchive fault)))
-        ⊎ ((result ≡ Status.NoMemory) × RunsOut (Status.BadArchive fault) (turn (R.written report.old) (R.faults report.old) (R.written report.new) (R.faults report.new))) }
+    ensures { ((result ≡ Status.BadArchive fault) × Tells (turn R.written R.faults report.old report.new) (line_of (Status.BadArchive fault)))
+        ⊎ ((result ≡ Status.NoMemory) × RunsOut (Status.BadArchive fault) (turn R.written R.faults report.old report.new)) }
 {
     let text = refusal_line(alloc, &fault);
     tell_text(report, text, Status::BadArchive(fault))
@@ -166,7 +166,7 @@ fn tell_refusal<R: Sink>(alloc: Global, fault: ArchiveFault, report: &mut R) -> 
 
 /// Tells the status on the report. A failing write changes nothing of it, and want of memory is the status then.
 pub fn tell<R: Sink>(alloc: Global, status: Status, report: &mut R) -> Status
-    ensures { Told status result (turn (R.written report.old) (R.faults report.old) (R.written report.new) (R.faults report.new)) }
+    ensures { Told status result (turn R.written R.faults report.old report.new) }
 {
     match status {
         Status::Done => Status::Done,

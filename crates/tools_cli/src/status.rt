@@ -1,5 +1,5 @@
 ghost use Rattle.std.specs.Prelude.{◌≡◌};
-ghost use Rattle.tools_cli.specs.Lines.{code_of};
+ghost use Rattle.tools_cli.specs.Statuses.{code_of, NumbersTellApart};
 
 use archive_format::DemuxFault;
 use bson_value::NsName;
@@ -45,3 +45,8 @@ impl Status {
         }
     }
 }
+
+/// Numbers tell statuses apart.
+pub fn numbers_tell_apart()
+    ensures { NumbersTellApart }
+{}

@@ -2,7 +2,8 @@
 ghost use Rattle.std.specs.Prelude.{Ok};
 ghost use Rattle.tools_cli.specs.Words.{meaning_of, texts_of};
 ghost use Rattle.tools_cli.specs.Ends.{turn};
-ghost use Rattle.tools_cli.specs.Answers.{Says, Shown, Answers};
+ghost use Rattle.tools_cli.specs.ShowAnswers.{Shown};
+ghost use Rattle.tools_cli.specs.Answers.{Says, Answers};
 
 use crate::listing::list_archive;
 use crate::order::Order;
@@ -16,7 +17,7 @@ use tool_io::{Fault, Sink, Source};
 
 // Writes a text that the command shows.
 fn show<K: Sink>(text: &str, output: &mut K) -> Status
-    ensures { Shown text.now result (turn (K.written output.old) (K.faults output.old) (K.written output.new) (K.faults output.new)) }
+    ensures { Shown text.now result (turn K.written K.faults output.old output.new) }
 {
     match output.write(text.as_bytes()) {
         Ok(()) => Status::Done,
@@ -26,10 +27,17 @@ fn show<K: Sink>(text: &str, output: &mut K) -> Status
 }
 
 // What the command does, without its line on the report.
-fn perform<S: Source, K: Sink>(alloc: Global, order: Order, input: &mut S, output: &mut K) -> Status
+fn perform<S: Source, K: Sink, R: Sink>(
+    alloc: Global,
+    order: Order,
+    input: &mut S,
+    output: &mut K,
+    report: &mut R,
+) -> Status
     ensures { Says (Ok order) result
-        (turn (S.left input.old) (S.faults input.old) (S.left input.new) (S.faults input.new))
-        (turn (K.written output.old) (K.faults output.old) (K.written output.new) (K.faults output.new)) }
+        (turn S.left S.faults input.old input.new)
+        (turn K.written K.faults output.old output.new)
+        (turn R.written R.faults report.old report.new) }
 {
     match order {
         Order::Restore(order) => list_archive(alloc, &order, input, output),
@@ -39,13 +47,20 @@ fn perform<S: Source, K: Sink>(alloc: Global, order: Order, input: &mut S, outpu
 }
 
 // The whole call, without its line on the report.
-fn run<S: Source, K: Sink>(alloc: Global, words: &[String], input: &mut S, output: &mut K) -> Status
+fn run<S: Source, K: Sink, R: Sink>(
+    alloc: Global,
+    words: &[String],
+    input: &mut S,
+    output: &mut K,
+    report: &mut R,
+) -> Status
     ensures { Says (meaning_of (texts_of words.now)) result
-        (turn (S.left input.old) (S.faults input.old) (S.left input.new) (S.faults input.new))
-        (turn (K.written output.old) (K.faults output.old) (K.written output.new) (K.faults output.new)) }
+        (turn S.left S.faults input.old input.new)
+        (turn K.written K.faults output.old output.new)
+        (turn R.written R.faults report.old report.new) }
 {
     match words::read(alloc, words) {
-        Ok(order) => perform(alloc, order, input, output),
+        Ok(order) => perform(alloc, order, input, output, report),
         Err(WordsFault::Usage { word }) => Status::Usage { word },
         Err(WordsFault::NoMemory) => Status::NoMemory,
     }
@@ -61,10 +76,10 @@ pub fn tools<S: Source, K: Sink, R: Sink>(
     report: &mut R,
 ) -> u8
     ensures { Answers (meaning_of (texts_of words.now)) result
-        (turn (S.left input.old) (S.faults input.old) (S.left input.new) (S.faults input.new))
-        (turn (K.written output.old) (K.faults output.old) (K.written output.new) (K.faults output.new))
-        (turn (R.written report.old) (R.faults report.old) (R.written report.new) (R.faults report.new)) }
+        (turn S.left S.faults input.old input.new)
+        (turn K.written K.faults output.old output.new)
+        (turn R.written R.faults report.old report.new) }
 {
-    let status = run(alloc, words, input, output);
+    let status = run(alloc, words, input, output, report);
     tell(alloc, status, report).code()
 }

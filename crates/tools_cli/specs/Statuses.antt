@@ -1,0 +1,39 @@
+-- The numbers of the statuses, and which status is due.
+use Rattle.std.specs.Prelude.{⊤, ◌≡◌, ◌⊎◌, ℕ}
+use Rattle.tools_cli.specs.declared.status.ArchiveFault.{ArchiveFault}
+use Rattle.tools_cli.specs.declared.status.Status.{Status}
+use Rattle.tools_cli.specs.declared.status.Status.TheVariants as is
+
+abbrev pub code_of : Status → ℕ
+code_of is.Done = 0
+code_of (is.Usage at) = 1
+code_of (is.BadArchive f) = 3
+code_of is.ReadFault = 9
+code_of is.WriteFault = 10
+code_of is.NoMemory = 11
+code_of is.Unbuilt = 12
+
+-- what the number of a status tells of it
+pub record Numbered (s : Status) : Type 0 where
+  pub done : code_of s ≡ 0 → s ≡ is.Done
+  pub usage : code_of s ≡ 1 → (at : ℕ) × (s ≡ is.Usage at)
+  pub bad_archive : code_of s ≡ 3 → (f : ArchiveFault) × (s ≡ is.BadArchive f)
+  pub read_fault : code_of s ≡ 9 → s ≡ is.ReadFault
+  pub write_fault : code_of s ≡ 10 → s ≡ is.WriteFault
+  pub no_memory : code_of s ≡ 11 → s ≡ is.NoMemory
+  pub unbuilt : code_of s ≡ 12 → s ≡ is.Unbuilt
+
+-- the law that numbers tell statuses apart
+abbrev pub NumbersTellApart : Type 0
+NumbersTellApart = (s : Status) → Numbered s
+
+-- a status that an end or memory brings, whichever is due
+abbrev pub IsOutside : Status → Type 0
+IsOutside is.ReadFault = ⊤
+IsOutside is.WriteFault = ⊤
+IsOutside is.NoMemory = ⊤
+IsOutside _ = ⊥
+
+-- the status has the number that is due, or comes from outside
+abbrev pub Gives : Status → ℕ → Type 0
+Gives status due = (code_of status ≡ due) ⊎ IsOutside status
