@@ -5,7 +5,6 @@ use Rattle.demux.proofs.Begin.{keeps_same}
 use Rattle.restore_base.specs.declared.collections.Stop.TheVariants as reasons
 use Rattle.restore_base.specs.Outcome.{Outcome, restores, stops, IsOutcome, OnInput}
 use Rattle.restore_base.proofs.Outcomes.{outcome_once}
-use Rattle.tools_cli.specs.declared.order.Order.{Order}
 use Rattle.tools_cli.specs.declared.order.Order.TheVariants as orders
 use Rattle.tools_cli.specs.declared.order.RestoreOrder.{RestoreOrder}
 use Rattle.tools_cli.specs.declared.status.ArchiveFault.{ArchiveFault}
@@ -14,11 +13,10 @@ use Rattle.tools_cli.specs.declared.status.Status.{Status}
 use Rattle.tools_cli.specs.declared.status.Status.TheVariants as is
 use Rattle.tools_cli.specs.declared.texts.TheConstants.{HELP, VERSION}
 use Rattle.tools_cli.specs.Words.{Meaning}
-use Rattle.tools_cli.specs.Ends.{End, Turn, Same, Untouched}
-use Rattle.tools_cli.specs.Statuses.{code_of, Gives}
-use Rattle.tools_cli.specs.RestoreAnswers.{HasOutcome, outcome_of, outcome_code, RestoreSays, RestoreAnswers}
-use Rattle.tools_cli.specs.ShowAnswers.{Shown, ShowAnswers}
-use Rattle.tools_cli.specs.UsageAnswers.{UsageAnswers}
+use Rattle.tools_cli.specs.Ends.{End, Turn, Untouched}
+use Rattle.tools_cli.specs.Statuses.{Gives}
+use Rattle.tools_cli.specs.RestoreAnswers.{outcome_of, outcome_code, RestoreSays, RestoreAnswers}
+use Rattle.tools_cli.specs.ShowAnswers.{ShowAnswers}
 use Rattle.tools_cli.specs.Answers.{Says}
 use Rattle.tools_cli.proofs.Reading.{refused, none_read}
 use Rattle.tools_cli.proofs.Telling.{keeps_front}

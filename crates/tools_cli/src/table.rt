@@ -63,6 +63,7 @@ pub enum Rule {
 }
 
 impl Value {
+    /// Whether it asks for documents by their bytes.
     pub fn is_hex(self) -> bool
         ensures { result ≡ is_hex self }
     {
@@ -81,6 +82,7 @@ impl OptionName {
         }
     }
 
+    /// Whether they are one option.
     pub fn is_same(self, other: OptionName) -> bool
         ensures { result ≡ same_option self other }
     {
@@ -101,6 +103,7 @@ impl Verb {
         }
     }
 
+    /// The options that may stand behind it, in any order.
     pub fn options(self) -> &'static [OptionRow]
         ensures { result.now ≡ options self }
     {
@@ -121,6 +124,7 @@ impl Verb {
         }
     }
 
+    /// What must hold of those that stand.
     pub fn rules(self) -> &'static [Rule]
         ensures { result.now ≡ rules self }
     {
