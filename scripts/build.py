@@ -111,8 +111,10 @@ class Copies:
                 shutil.rmtree(theirs, ignore_errors=True)
                 if ours.is_dir():
                     shutil.copytree(ours, theirs)
-        for name in ("crates.txt", "HANDLES"):
-            shutil.copy(ROOT / name, copy / name)
+        # (rt wants a folder for each crate that is named)
+        lines = (ROOT / "crates.txt").read_text().splitlines(keepends=True)
+        (copy / "crates.txt").write_text("".join(it for it in lines if it.partition(":")[0].strip() in self.crates))
+        shutil.copy(ROOT / "HANDLES", copy / "HANDLES")
 
     def prove(self, lane, name, jobs):
         """Proves a crate in a lane's copy, and returns how many seconds it took, or None where it isn't proved."""
