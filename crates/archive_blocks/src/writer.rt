@@ -43,11 +43,11 @@ fn head(alloc: Global, ns: &NsName, eof: bool, crc: i64) -> Result<Bytes, AllocE
 
 // The documents one after the other. Their sum is taken.
 fn write_all<K: Sink>(docs: &[Bytes], sum: &mut Crc, sink: &mut K) -> Result<(), Fault>
-    ensures ok { OnOk result (Appends (K.written sink.old) (K.written sink.new) (joined docs.now)) }
-    ensures err { OnErr result (AppendsFront (K.written sink.old) (K.written sink.new) (joined docs.now)) }
+    ensures ok { OnOk result (Appends (K.end sink.old).bytes (K.end sink.new).bytes (joined docs.now)) }
+    ensures err { OnErr result (AppendsFront (K.end sink.old).bytes (K.end sink.new).bytes (joined docs.now)) }
     ensures sum { OnOk result (sum.new ≡ crc_on sum.old (joined docs.now)) }
-    ensures later { K.faults sink.old ≤ K.faults sink.new }
-    ensures failed { IsErrOf result Fault.Failed → Rose (K.faults sink.old) (K.faults sink.new) }
+    ensures later { (K.end sink.old).faults ≤ (K.end sink.new).faults }
+    ensures failed { IsErrOf result Fault.Failed → Rose (K.end sink.old).faults (K.end sink.new).faults }
 {
     for doc in docs {
         sink.write(doc.as_slice())?;
@@ -90,11 +90,11 @@ impl BlockWriter {
     /// Writes a block: header, documents, terminator. Without documents nothing is written. Header, documents and
     /// terminator are writes of their own. Behind an error the writer is of no use: some front of the block was written.
     pub fn block<K: Sink>(&mut self, docs: &List<Bytes>, sink: &mut K) -> Result<(), Fault>
-        ensures ok { OnOk result (Appends (K.written sink.old) (K.written sink.new) (block_text self.old.ns docs.now)) }
-        ensures err { OnErr result (AppendsFront (K.written sink.old) (K.written sink.new) (block_text self.old.ns docs.now)) }
+        ensures ok { OnOk result (Appends (K.end sink.old).bytes (K.end sink.new).bytes (block_text self.old.ns docs.now)) }
+        ensures err { OnErr result (AppendsFront (K.end sink.old).bytes (K.end sink.new).bytes (block_text self.old.ns docs.now)) }
         ensures sum { OnOk result (self.new ≡ with_documents self.old docs.now) }
-        ensures later { K.faults sink.old ≤ K.faults sink.new }
-        ensures failed { IsErrOf result Fault.Failed → Rose (K.faults sink.old) (K.faults sink.new) }
+        ensures later { (K.end sink.old).faults ≤ (K.end sink.new).faults }
+        ensures failed { IsErrOf result Fault.Failed → Rose (K.end sink.old).faults (K.end sink.new).faults }
     {
         if docs.is_empty() {
             return Ok(());
@@ -108,11 +108,11 @@ impl BlockWriter {
     /// Writes the end of the namespace, with the checksum of the documents of all its blocks, in one write. Behind an
     /// error some front of it was written.
     pub fn end<K: Sink>(&mut self, sink: &mut K) -> Result<(), Fault>
-        ensures ok { OnOk result (Appends (K.written sink.old) (K.written sink.new) (end_text self.old.ns self.old.sum)) }
-        ensures err { OnErr result (AppendsFront (K.written sink.old) (K.written sink.new) (end_text self.old.ns self.old.sum)) }
+        ensures ok { OnOk result (Appends (K.end sink.old).bytes (K.end sink.new).bytes (end_text self.old.ns self.old.sum)) }
+        ensures err { OnErr result (AppendsFront (K.end sink.old).bytes (K.end sink.new).bytes (end_text self.old.ns self.old.sum)) }
         ensures same { self.new ≡ self.old }
-        ensures later { K.faults sink.old ≤ K.faults sink.new }
-        ensures failed { IsErrOf result Fault.Failed → Rose (K.faults sink.old) (K.faults sink.new) }
+        ensures later { (K.end sink.old).faults ≤ (K.end sink.new).faults }
+        ensures failed { IsErrOf result Fault.Failed → Rose (K.end sink.old).faults (K.end sink.new).faults }
     {
         let mut bytes = head(self.alloc, &self.ns, true, self.sum.sum().cast_signed())?;
         bytes.extend_from_slice(&TERMINATOR)?;

@@ -5,7 +5,7 @@ use Rattle.std.proofs.lemmas.List.{drop_at, take_all, length-append, length-drop
 use Rattle.std.proofs.lemmas.Grind.{flat_map-append}
 use Rattle.std.proofs.lemmas.List.Concat.{flat_map-cons}
 use Rattle.std.proofs.lemmas.Bool.{le-ltb, ltb-false}
-use Rattle.archive_format.specs.declared.fault.DemuxFault.{DemuxFault}
+use Rattle.archive_format.specs.declared.fault.FormatFault.{FormatFault}
 use Rattle.archive_format.specs.declared.place.Place.{Place}
 use Rattle.archive_format.specs.declared.place.Place.TheVariants.{Front, Header, Metas, Blocks, Inside, Ending}
 use Rattle.archive_format.specs.Archive.{Item, Taking, text_of, Stage, Runs, Clean, Next, short, onward, wrong, next, limit, open_of, at_end, ending, closing, Ends, EndsOf, Content}
@@ -54,7 +54,7 @@ pub clean_on : (s : Stage) (at : ℕ) (bytes : List ℕ) (t : Stage) (to : ℕ) 
     → Clean s at bytes t to rest ts → next t to rest ≡ onward m one n → Clean s at bytes m (to + n) (drop n rest) (ts ++ one)
 clean_on s at bytes t to rest ts m one n c e = clean_join s at bytes t to rest ts m (to + n) (drop n rest) one c (clean_one t to rest m one n e)
 
-pub ends_join : (s : Stage) (at : ℕ) (bytes : List ℕ) (t : Stage) (to : ℕ) (rest : List ℕ) (ts : List Taking) (more : Bool) (us : List Taking) (e : Option DemuxFault)
+pub ends_join : (s : Stage) (at : ℕ) (bytes : List ℕ) (t : Stage) (to : ℕ) (rest : List ℕ) (ts : List Taking) (more : Bool) (us : List Taking) (e : Option FormatFault)
     → Clean s at bytes t to rest ts → Ends t to rest more us e → Ends s at bytes more (ts ++ us) e
 ends_join s at bytes t to rest ts more us e c d = record {
   stage = d.stage;
@@ -66,11 +66,11 @@ ends_join s at bytes t to rest ts more us e c d = record {
 
 pub record SomeEnd (s : Stage) (at : ℕ) (bytes : List ℕ) (more : Bool) : Type 0 where
   pub takings : List Taking
-  pub fault : Option DemuxFault
+  pub fault : Option FormatFault
   pub ends : Ends s at bytes more takings fault
 
 -- there is an end
-ends_here : (s : Stage) (at : ℕ) (bytes : List ℕ) (more : Bool) (e : Option DemuxFault) → closing more s at bytes (next s at bytes) ≡ Some e → SomeEnd s at bytes more
+ends_here : (s : Stage) (at : ℕ) (bytes : List ℕ) (more : Bool) (e : Option FormatFault) → closing more s at bytes (next s at bytes) ≡ Some e → SomeEnd s at bytes more
 ends_here s at bytes more e h = record { takings = []; fault = e; ends = record { stage = s; to = at; rest = bytes; clean = clean_none s at bytes; stops = h } }
 
 ends_next : (turns : ℕ) → ((s : Stage) (at : ℕ) (bytes : List ℕ) (more : Bool) → length bytes < turns → SomeEnd s at bytes more)
@@ -90,10 +90,10 @@ pub ends_total : (s : Stage) (at : ℕ) (bytes : List ℕ) (more : Bool) → Som
 ends_total s at bytes more = ends_by (suc (length bytes)) s at bytes more (omega arith)
 
 -- there is one end alone
-stop_or_on : (more : Bool) (s : Stage) (at : ℕ) (bytes : List ℕ) (e : Option DemuxFault) (m : Stage) (one : List Taking) (n : ℕ) → closing more s at bytes (next s at bytes) ≡ Some e → next s at bytes ≡ onward m one n → ⊥
+stop_or_on : (more : Bool) (s : Stage) (at : ℕ) (bytes : List ℕ) (e : Option FormatFault) (m : Stage) (one : List Taking) (n : ℕ) → closing more s at bytes (next s at bytes) ≡ Some e → next s at bytes ≡ onward m one n → ⊥
 stop_or_on more s at bytes e m one n h k = let x = rw k at h in cc
 
-ends_alone : (is js : List Item) (s : Stage) (at : ℕ) (bytes : List ℕ) (more : Bool) (t u : Stage) (to so : ℕ) (rest left : List ℕ) (ts us : List Taking) (e f : Option DemuxFault)
+ends_alone : (is js : List Item) (s : Stage) (at : ℕ) (bytes : List ℕ) (more : Bool) (t u : Stage) (to so : ℕ) (rest left : List ℕ) (ts us : List Taking) (e f : Option FormatFault)
     → bytes ≡ flat_map text_of is ++ rest → bytes ≡ flat_map text_of js ++ left → Runs s at is t ts → Runs s at js u us → to ≡ at + length (flat_map text_of is) → so ≡ at + length (flat_map text_of js)
     → closing more t to rest (next t to rest) ≡ Some e → closing more u so left (next u so left) ≡ Some f → (ts ≡ us) × (Some e ≡ Some f)
 ends_alone [] [] s at bytes more t u to so rest left ts us e f a b r q x y c d =
@@ -139,7 +139,7 @@ ends_alone (i ∷ is) (j ∷ js) s at bytes more t u to so rest left ts us e f a
     (omega (arith, x, li)) (omega (arith, y, lj, n)) c d in
     (r.6 ∙ ap (λ z. z ++ r.2) o ∙ ap (λ z. q.1 ++ z) k.0 ∙ sym q.6, k.1)
 
-pub ends_unique : (s : Stage) (at : ℕ) (bytes : List ℕ) (more : Bool) (ts us : List Taking) (e f : Option DemuxFault) → Ends s at bytes more ts e → Ends s at bytes more us f → (ts ≡ us) × (e ≡ f)
+pub ends_unique : (s : Stage) (at : ℕ) (bytes : List ℕ) (more : Bool) (ts us : List Taking) (e f : Option FormatFault) → Ends s at bytes more ts e → Ends s at bytes more us f → (ts ≡ us) × (e ≡ f)
 ends_unique s at bytes more ts us e f p q =
     let k = ends_alone p.clean.items q.clean.items s at bytes more p.stage q.stage p.to q.to p.rest q.rest ts us e f p.clean.text q.clean.text p.clean.runs q.clean.runs p.clean.here q.clean.here p.stops q.stops in
     (k.0, cc)

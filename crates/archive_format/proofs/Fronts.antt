@@ -5,7 +5,7 @@ use Rattle.std.proofs.lemmas.List.{take_at, take-append-le, take-append-drop, ta
 use Rattle.std.proofs.lemmas.Bool.{le-ltb, lt-ltb, cases_Bool, false_from_ne_true, cases_lt}
 use Rattle.std.proofs.lemmas.Slice.Eq.{bytes_eq-Decides}
 use Rattle.archive_format.specs.Archive.{number}
-use Rattle.archive_format.specs.declared.fault.DemuxFault.{DemuxFault}
+use Rattle.archive_format.specs.declared.fault.FormatFault.{FormatFault}
 use Rattle.archive_format.specs.declared.place.Place.{Place}
 use Rattle.archive_format.specs.declared.place.Place.TheVariants.{Front, Header, Metas, Blocks, Inside, Ending}
 use Rattle.archive_format.specs.Archive.{Item, magic, terminator, document, Taking, magic_bytes, stop_bytes, text_of, IsItem, Stage, Verdict, goes, bad, step_at, step, is_magic, is_stop, lengthy, early, size_of, item_of, onward, wrong, judged, unless_early, next}
@@ -112,7 +112,7 @@ judged_onward : (k : ℕ) (v : Verdict) (m : Stage) (one : List Taking) (n : ℕ
 judged_onward k (goes s ts) m one n e = (cc, cc)
 judged_onward k (bad f) m one n e = absurd (cc)
 
-unless_onward : (s : Stage) (at : ℕ) (bytes word : List ℕ) (e : Option DemuxFault) (m : Stage) (one : List Taking) (n : ℕ) → unless_early s at bytes word e ≡ onward m one n
+unless_onward : (s : Stage) (at : ℕ) (bytes word : List ℕ) (e : Option FormatFault) (m : Stage) (one : List Taking) (n : ℕ) → unless_early s at bytes word e ≡ onward m one n
     → (e ≡ None) × (size_of word ≤ length bytes) × (step s at (item_of word (take (size_of word) bytes)) ≡ goes m one) × (size_of word ≡ n)
 unless_onward s at bytes word (Some f) m one n h = absurd (cc)
 unless_onward s at bytes word None m one n h = elim (cases_lt (length bytes) (size_of word)) [
@@ -183,7 +183,7 @@ pub met_length : (s : Stage) (at : ℕ) (bytes : List ℕ) (m : Stage) (one : Li
 met_length s at bytes m one n met = (omega (arith, four met.item met.is, met.size), omega (arith, met.size, ap length met.text, length-append (text_of met.item) (drop n bytes)))
 
 -- a fault stays where more bytes come
-judged_wrong_grows : (s : Stage) (at : ℕ) (bytes more word : List ℕ) (e : Option DemuxFault) (f : DemuxFault) → unless_early s at bytes word e ≡ wrong f → unless_early s at (bytes ++ more) word e ≡ wrong f
+judged_wrong_grows : (s : Stage) (at : ℕ) (bytes more word : List ℕ) (e : Option FormatFault) (f : FormatFault) → unless_early s at bytes word e ≡ wrong f → unless_early s at (bytes ++ more) word e ≡ wrong f
 judged_wrong_grows s at bytes more word (Some g) f h = h
 judged_wrong_grows s at bytes more word None f h = elim (cases_lt (length bytes) (size_of word)) [
   | inl lt ↦ absurd (let a : ltb (length bytes) (size_of word) ≡ true = lt-ltb _ _ lt in let k = rw a at h in cc)
@@ -194,7 +194,7 @@ judged_wrong_grows s at bytes more word None f h = elim (cases_lt (length bytes)
       rw (b, c) (rw a at h))
 ]
 
-pub wrong_grows : (s : Stage) (at : ℕ) (bytes more : List ℕ) (f : DemuxFault) → next s at bytes ≡ wrong f → next s at (bytes ++ more) ≡ wrong f
+pub wrong_grows : (s : Stage) (at : ℕ) (bytes more : List ℕ) (f : FormatFault) → next s at bytes ≡ wrong f → next s at (bytes ++ more) ≡ wrong f
 unfolding next
 wrong_grows s at bytes more f h = elim (cases_lt (length bytes) 4) [
   | inl lt ↦ absurd (let a : ltb (length bytes) 4 ≡ true = lt-ltb _ _ lt in let k = rw a at h in cc)

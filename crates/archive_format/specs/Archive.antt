@@ -10,8 +10,8 @@ use Rattle.bson_check.specs.declared.fault.BsonKind.TheVariants as kinds
 use Rattle.bson_check.specs.Reading.{document_of}
 use Rattle.archive_format.specs.Crc.{crc_start, crc_on, crc_end}
 use Rattle.archive_format.specs.Shapes.{Shaped, ShapeFault, Header as PreludeHeader, header_of, Metadata, meta_of, Head, ns_head_of, is_oplog}
-use Rattle.archive_format.specs.declared.fault.DemuxFault.{DemuxFault}
-use Rattle.archive_format.specs.declared.fault.DemuxFault.TheVariants.{BadMagic, Truncated, BadBson, BadPrelude, BadHeader, AfterEnd, DocsInEnd, Crc, NotEnded, TooLong}
+use Rattle.archive_format.specs.declared.fault.FormatFault.{FormatFault}
+use Rattle.archive_format.specs.declared.fault.FormatFault.TheVariants.{BadMagic, Truncated, BadBson, BadPrelude, BadHeader, AfterEnd, DocsInEnd, Crc, NotEnded, TooLong}
 use Rattle.archive_format.specs.declared.place.Place.{Place}
 use Rattle.archive_format.specs.declared.place.Place.TheVariants.{Front, Header, Metas, Blocks, Inside, Ending}
 
@@ -65,7 +65,7 @@ start = record { place = Front; metas = []; seen = [] }
 -- the next stage and what is handed out, or the fault
 pub data Verdict : Type 0 where
   goes : Stage → List Taking → Verdict
-  bad : DemuxFault → Verdict
+  bad : FormatFault → Verdict
 
 abbrev pub same_ns : NsName → NsName → Bool
 same_ns a b = bytes_eq a.db b.db && bytes_eq a.coll b.coll
@@ -215,10 +215,10 @@ is_magic word = bytes_eq word magic_bytes
 abbrev pub is_stop : List ℕ → Bool
 is_stop word = bytes_eq word stop_bytes
 
-unfoldable pub lengthy : ℕ → ℕ → Option DemuxFault
+unfoldable pub lengthy : ℕ → ℕ → Option FormatFault
 lengthy at n = if nat_lt n 5 || nat_lt 2147483647 n then Some (BadBson at kinds.Length) else (if nat_lt 16793600 n then Some (BadBson at kinds.TooLong) else None)
 
-unfoldable pub early : Place → ℕ → List ℕ → Option DemuxFault
+unfoldable pub early : Place → ℕ → List ℕ → Option FormatFault
 early Front at word = if is_magic word then None else Some BadMagic
 early Header at word = if is_stop word then Some (BadPrelude at) else lengthy at (number word)
 early Metas at word = if is_stop word then None else lengthy at (number word)
@@ -237,13 +237,13 @@ item_of word b = if is_stop word then terminator else (if is_magic word then mag
 pub data Next : Type 0 where
   short : Next
   onward : Stage → List Taking → ℕ → Next
-  wrong : DemuxFault → Next
+  wrong : FormatFault → Next
 
 abbrev pub judged : ℕ → Verdict → Next
 judged n (goes s ts) = onward s ts n
 judged n (bad f) = wrong f
 
-abbrev pub unless_early : Stage → ℕ → List ℕ → List ℕ → Option DemuxFault → Next
+abbrev pub unless_early : Stage → ℕ → List ℕ → List ℕ → Option FormatFault → Next
 unless_early s at bytes word (Some f) = wrong f
 unless_early s at bytes word None = if nat_lt (length bytes) (size_of word) then short else judged (size_of word) (step s at (item_of word (take (size_of word) bytes)))
 
@@ -254,34 +254,34 @@ abbrev pub limit : ℕ
 limit = 281474976710656
 
 -- the first namespace that wasn't ended
-abbrev pub open_of : List Seen → Option DemuxFault
+abbrev pub open_of : List Seen → Option FormatFault
 open_of [] = None
 open_of (e ∷ es) = if e.ended then open_of es else Some (NotEnded e.ns)
 
-abbrev pub at_end : Place → Stage → ℕ → List ℕ → Option DemuxFault
+abbrev pub at_end : Place → Stage → ℕ → List ℕ → Option FormatFault
 at_end Blocks s at [] = open_of s.seen
 at_end p s at rest = Some (Truncated (at + length rest))
 
 -- how the input ends behind the last item that is held whole; `more`: it goes on past the limit
-unfoldable pub ending : Bool → Stage → ℕ → List ℕ → Option DemuxFault
+unfoldable pub ending : Bool → Stage → ℕ → List ℕ → Option FormatFault
 ending true s at rest = Some TooLong
 ending false s at rest = at_end s.place s at rest
 
 -- the fault, or that there is none, where no item goes on
-abbrev pub closing : Bool → Stage → ℕ → List ℕ → Next → Option (Option DemuxFault)
+abbrev pub closing : Bool → Stage → ℕ → List ℕ → Next → Option (Option FormatFault)
 closing more s at rest (onward t ts n) = None
 closing more s at rest (wrong f) = Some (Some f)
 closing more s at rest short = Some (ending more s at rest)
 
 -- the longest clean front hands out these takings, and behind it there is this fault, or none
-pub record Ends (s : Stage) (at : ℕ) (bytes : List ℕ) (more : Bool) (ts : List Taking) (e : Option DemuxFault) : Type 0 where
+pub record Ends (s : Stage) (at : ℕ) (bytes : List ℕ) (more : Bool) (ts : List Taking) (e : Option FormatFault) : Type 0 where
   pub stage : Stage
   pub to : ℕ
   pub rest : List ℕ
   pub clean : Clean s at bytes stage to rest ts
   pub stops : closing more stage to rest (next stage to rest) ≡ Some e
 
-abbrev pub EndsOf : List ℕ → List Taking → Option DemuxFault → Type 0
+abbrev pub EndsOf : List ℕ → List Taking → Option FormatFault → Type 0
 EndsOf bytes ts e = Ends start 0 (take limit bytes) (nat_lt limit (length bytes)) ts e
 
 -- the bytes are an archive with these takings, in order of the bytes
@@ -294,7 +294,7 @@ pub record Content (bytes : List ℕ) (ts : List Taking) : Type 0 where
   pub closed : stage.place ≡ Blocks
   pub ended : open_of stage.seen ≡ None
 
-abbrev pub Refuses : List ℕ → DemuxFault → Type 0
+abbrev pub Refuses : List ℕ → FormatFault → Type 0
 Refuses bytes f = (ts : List Taking) × EndsOf bytes ts (Some f)
 
 -- what an archive holds, each in order of the bytes: the metadata texts, the documents, and the namespaces that were ended

@@ -1,15 +1,11 @@
 //! Why bytes are no archive.
 
-ghost use Rattle.std.specs.Prelude.{◌≡◌};
-ghost use Rattle.archive_format.specs.declared.fault.DemuxFault.TheVariants.{NoMemory};
-
 use bson_check::BsonKind;
 use bson_value::NsName;
-use std::alloc::{AllocError, AllocFailed};
 
-/// Why an archive wasn't taken. `at` is the place of the first byte of the item that was looked at.
+/// What is wrong with bytes that are no archive. `at` is the place of the first byte of the item that was looked at.
 #[derive(Debug, Drop)]
-pub enum DemuxFault {
+pub enum FormatFault {
     /// The input doesn't begin with the magic number.
     BadMagic,
     /// The input ends inside an item, or where an item must stand. `at` is its length.
@@ -28,28 +24,6 @@ pub enum DemuxFault {
     Crc { ns: NsName, said: u64, found: u64 },
     /// The input ends, and this namespace didn't: the first of those that a header named.
     NotEnded { ns: NsName },
-    /// The source failed.
-    ReadFault,
-    /// The taker stopped.
-    Stopped,
     /// The input has more than 281,474,976,710,656 bytes.
     TooLong,
-    /// There was no memory.
-    NoMemory,
-}
-
-impl From<AllocError> for DemuxFault {
-    ghost from_gives = { λ _ e. e ≡ NoMemory };
-
-    fn from(_e: AllocError) -> DemuxFault {
-        DemuxFault::NoMemory
-    }
-}
-
-impl<T: Drop> From<AllocFailed<T>> for DemuxFault {
-    ghost from_gives = { λ _ e. e ≡ NoMemory };
-
-    fn from(_e: AllocFailed<T>) -> DemuxFault {
-        DemuxFault::NoMemory
-    }
 }

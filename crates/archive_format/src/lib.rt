@@ -7,7 +7,7 @@ mod marks;
 mod names;
 mod place;
 
-pub use fault::DemuxFault;
+pub use fault::FormatFault;
 pub use laws::{
     content_or_fault, crc_by_parts, headers_are_read, heads_are_read, metas_are_read, one_end,
     written_sizes,

@@ -63,10 +63,10 @@ fn metadata(alloc: Global, meta: &Meta) -> Result<Bytes, AllocError>
 
 // The metadata documents one after the other.
 fn write_metas<K: Sink>(alloc: Global, metas: &[Meta], sink: &mut K) -> Result<(), Fault>
-    ensures ok { OnOk result (Appends (K.written sink.old) (K.written sink.new) (flat_map (λ m. meta_text (metadata_of m)) metas.now)) }
-    ensures err { OnErr result (AppendsFront (K.written sink.old) (K.written sink.new) (flat_map (λ m. meta_text (metadata_of m)) metas.now)) }
-    ensures later { K.faults sink.old ≤ K.faults sink.new }
-    ensures failed { IsErrOf result Fault.Failed → Rose (K.faults sink.old) (K.faults sink.new) }
+    ensures ok { OnOk result (Appends (K.end sink.old).bytes (K.end sink.new).bytes (flat_map (λ m. meta_text (metadata_of m)) metas.now)) }
+    ensures err { OnErr result (AppendsFront (K.end sink.old).bytes (K.end sink.new).bytes (flat_map (λ m. meta_text (metadata_of m)) metas.now)) }
+    ensures later { (K.end sink.old).faults ≤ (K.end sink.new).faults }
+    ensures failed { IsErrOf result Fault.Failed → Rose (K.end sink.old).faults (K.end sink.new).faults }
 {
     for meta in metas {
         let bytes = metadata(alloc, meta)?;
@@ -79,10 +79,10 @@ fn write_metas<K: Sink>(alloc: Global, metas: &[Meta], sink: &mut K) -> Result<(
 /// and so is each document and the terminator. Behind an error some front of it was written.
 pub fn write<K: Sink>(alloc: Global, prelude: &Prelude, sink: &mut K) -> Result<(), Fault>
     requires { PreludeFits prelude.now }
-    ensures ok { OnOk result (Appends (K.written sink.old) (K.written sink.new) (prelude_text (header_of_prelude prelude.now) (map metadata_of prelude.now.metas))) }
-    ensures err { OnErr result (AppendsFront (K.written sink.old) (K.written sink.new) (prelude_text (header_of_prelude prelude.now) (map metadata_of prelude.now.metas))) }
-    ensures later { K.faults sink.old ≤ K.faults sink.new }
-    ensures failed { IsErrOf result Fault.Failed → Rose (K.faults sink.old) (K.faults sink.new) }
+    ensures ok { OnOk result (Appends (K.end sink.old).bytes (K.end sink.new).bytes (prelude_text (header_of_prelude prelude.now) (map metadata_of prelude.now.metas))) }
+    ensures err { OnErr result (AppendsFront (K.end sink.old).bytes (K.end sink.new).bytes (prelude_text (header_of_prelude prelude.now) (map metadata_of prelude.now.metas))) }
+    ensures later { (K.end sink.old).faults ≤ (K.end sink.new).faults }
+    ensures failed { IsErrOf result Fault.Failed → Rose (K.end sink.old).faults (K.end sink.new).faults }
 {
     let mut front = Bytes::of(alloc, &MAGIC)?;
     front.extend_from_slice(header(alloc, prelude)?.as_slice())?;

@@ -2,6 +2,7 @@
 ghost use Rattle.std.specs.Prelude.{◌≡◌, ◌<◌, OnOk, IsErrOf};
 ghost use Rattle.tool_io.specs.Causes.{Rose};
 
+use archive_format::FormatFault;
 use bson_value::NsName;
 use demux::{Demux, DemuxFault, DocTaker, Halt};
 use std::alloc::{AllocError, Global};
@@ -10,23 +11,23 @@ use tool_io::{MemSource, Source};
 
 // The words of an input, its answer, and what it shows. A word is the name of an item, or hexadecimal digits.
 const ANSWERS: &str = "\
-nothing => Err(Truncated { at: 0 }) -- no bytes
-magic 05 => Err(Truncated { at: 5 }) -- a magic number alone
-6ee29981 header stop => Err(BadMagic) -- another magic number
+nothing => Err(Format(Truncated { at: 0 })) -- no bytes
+magic 05 => Err(Format(Truncated { at: 5 })) -- a magic number alone
+6ee29981 header stop => Err(Format(BadMagic)) -- another magic number
 P0 => Ok(()) -- a prelude alone
-magic 04000000 fields stop => Err(BadBson { at: 4, kind: Length }) -- a length below five
-magic 01400001 fields stop => Err(BadBson { at: 4, kind: TooLong }) -- a length above the limit
-magic 65000000 fields stop => Err(BadBson { at: 4, kind: Tag }) -- a length that is one too great
-magic stop => Err(BadPrelude { at: 4 }) -- a terminator for the header
-magic newer stop => Err(BadPrelude { at: 4 }) -- another version
-magic header meta meta stop => Err(BadPrelude { at: 183 }) -- metadata twice
-P0 stop => Err(BadHeader { at: 108 }) -- a terminator for the header of a block
-P0 one => Err(BadHeader { at: 108 }) -- a document for the header of a block
-P0 end one => Err(DocsInEnd { at: 160 }) -- a document behind an end
-P0 end stop end stop => Err(AfterEnd { ns: NsName { db: Text { text: \"a\" }, coll: Text { text: \"b\" } }, at: 164 }) -- two ends
-P0 wrong stop => Err(Crc { ns: NsName { db: Text { text: \"a\" }, coll: Text { text: \"b\" } }, said: 1, found: 0 }) -- another checksum
+magic 04000000 fields stop => Err(Format(BadBson { at: 4, kind: Length })) -- a length below five
+magic 01400001 fields stop => Err(Format(BadBson { at: 4, kind: TooLong })) -- a length above the limit
+magic 65000000 fields stop => Err(Format(BadBson { at: 4, kind: Tag })) -- a length that is one too great
+magic stop => Err(Format(BadPrelude { at: 4 })) -- a terminator for the header
+magic newer stop => Err(Format(BadPrelude { at: 4 })) -- another version
+magic header meta meta stop => Err(Format(BadPrelude { at: 183 })) -- metadata twice
+P0 stop => Err(Format(BadHeader { at: 108 })) -- a terminator for the header of a block
+P0 one => Err(Format(BadHeader { at: 108 })) -- a document for the header of a block
+P0 end one => Err(Format(DocsInEnd { at: 160 })) -- a document behind an end
+P0 end stop end stop => Err(Format(AfterEnd { ns: NsName { db: Text { text: \"a\" }, coll: Text { text: \"b\" } }, at: 164 })) -- two ends
+P0 wrong stop => Err(Format(Crc { ns: NsName { db: Text { text: \"a\" }, coll: Text { text: \"b\" } }, said: 1, found: 0 })) -- another checksum
 P0 open one stop unsummed stop => Ok(()) -- an end without a checksum
-P0 open one stop => Err(NotEnded { ns: NsName { db: Text { text: \"a\" }, coll: Text { text: \"b\" } } }) -- no end
+P0 open one stop => Err(Format(NotEnded { ns: NsName { db: Text { text: \"a\" }, coll: Text { text: \"b\" } } })) -- no end
 ";
 
 const INTERLEAVED: &str =
@@ -264,7 +265,7 @@ fn a_bad_magic_number_reads_no_further(rt: HostRuntime) -> Result<(), Fail> {
     let mut notes = Notes::new(alloc, 99);
     let mut source = MemSource::new(bytes, Vec::new(alloc), Vec::new(alloc));
     let answer = Demux::new(alloc)?.run(&mut source, &mut notes);
-    assert!(rt; matches!(answer, Err(DemuxFault::BadMagic)));
+    assert!(rt; matches!(answer, Err(DemuxFault::Format(FormatFault::BadMagic))));
     let mut rest = Vec::new(alloc);
     rest.resize(40_000_108, 0u8)?;
     let left = match rest.is_empty() {

@@ -1,7 +1,7 @@
 -- Before the first byte.
 use Rattle.std.proofs.Common.{◌≡◌, ℕ, ◌++◌, Bool, List, [], take, drop, refl, ap, sym, subst, ◌∙◌, append_assoc, arith}
 use Rattle.std.specs.Prelude.{None, Some, Option, Result}
-use Rattle.archive_format.specs.declared.fault.DemuxFault.{DemuxFault}
+use Rattle.demux.specs.declared.fault.DemuxFault.{DemuxFault}
 use Rattle.archive_format.specs.Archive.{Taking, text_of, Stage, start}
 use Rattle.std.proofs.lemmas.List.{take-append-drop}
 use Rattle.demux.specs.Steps.{AsksFirst}

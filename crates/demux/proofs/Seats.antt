@@ -6,7 +6,7 @@ use Rattle.std.proofs.lemmas.List.{get_or-set_same}
 use Rattle.std.proofs.lemmas.Bool.{eq-eqb}
 use Rattle.archive_format.specs.Crc.{crc_end}
 use Rattle.archive_format.specs.Archive.{Seen, Stage, closed_entry, end_step, open_of}
-use Rattle.archive_format.specs.declared.fault.DemuxFault.TheVariants.{NotEnded}
+use Rattle.archive_format.specs.declared.fault.FormatFault.TheVariants.{NotEnded}
 
 -- an entry that is there
 pub seat_there : (es : List Seen) (i : ℕ) → i < length es → (e : Seen) × (slice_get es i ≡ Some e)

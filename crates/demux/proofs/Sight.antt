@@ -4,8 +4,8 @@ use Rattle.std.specs.Prelude.{Some, Option, nat_lt, flat_map}
 use Rattle.std.proofs.lemmas.List.{take-append-le, drop-append-le, take-append-drop, take_all, length-append, length-take, append-nil}
 use Rattle.std.proofs.Math.Seq.{take-append-add}
 use Rattle.std.proofs.lemmas.Bool.{le-ltb, lt-ltb, cases_lt}
-use Rattle.archive_format.specs.declared.fault.DemuxFault.{DemuxFault}
-use Rattle.archive_format.specs.declared.fault.DemuxFault.TheVariants.{TooLong}
+use Rattle.archive_format.specs.declared.fault.FormatFault.{FormatFault}
+use Rattle.archive_format.specs.declared.fault.FormatFault.TheVariants.{TooLong}
 use Rattle.archive_format.specs.Archive.{Taking, text_of, Stage, start, Clean, short, onward, wrong, next, limit, ending, closing, EndsOf}
 use Rattle.demux.specs.Told.{Holds}
 use Rattle.archive_format.proofs.Fronts.{item_met, item_found, met_length, wrong_grows}
@@ -40,7 +40,7 @@ module _ (all : List ℕ) (s : Stage) (at : ℕ) (held left : List ℕ) (given :
   clipped : Clean start 0 (take limit all) s at (take (limit - at) (held ++ left)) given
   clipped = clip start 0 all s at (held ++ left) given limit h.clean (omega (arith, h.within))
 
-  pub fault_found : (f : DemuxFault) → next s at (take (limit - at) held) ≡ wrong f → EndsOf all given (Some f)
+  pub fault_found : (f : FormatFault) → next s at (take (limit - at) held) ≡ wrong f → EndsOf all given (Some f)
   fault_found f e =
       let b = begins (limit - at) held left in
       let w : next s at (take (limit - at) (held ++ left)) ≡ wrong f = ap (next s at) b.is ∙ wrong_grows s at (take (limit - at) held) b.behind f e in
@@ -63,7 +63,7 @@ module _ (all : List ℕ) (s : Stage) (at : ℕ) (held left : List ℕ) (given :
       record { stage = s; to = at; rest = take (limit - at) (held ++ left); clean = clipped; stops = rw (more, r, e) refl }
 
   -- whatever comes, the takings so far are the first of all
-  pub first_of_all : (more : List Taking) × (e : Option DemuxFault) × EndsOf all (given ++ more) e
+  pub first_of_all : (more : List Taking) × (e : Option FormatFault) × EndsOf all (given ++ more) e
   first_of_all =
       let k = ends_total s at (take (limit - at) (held ++ left)) (nat_lt limit (length all)) in
       (k.takings, k.fault, ends_join start 0 (take limit all) s at (take (limit - at) (held ++ left)) given (nat_lt limit (length all)) k.takings k.fault clipped k.ends)

@@ -4,11 +4,13 @@ use Rattle.std.specs.Prelude.{None, Some, Option, Result, Ok, Err}
 use Rattle.std.proofs.lemmas.List.{append-nil, length-take}
 use Rattle.std.proofs.lemmas.Bool.{le-ltb, cases_lt, cases_Bool}
 use Rattle.std.specs.Io.KnownBytes.{Consumes, IsAtEnd, Keeps}
-use Rattle.archive_format.specs.declared.fault.DemuxFault.{DemuxFault}
-use Rattle.archive_format.specs.declared.fault.DemuxFault.TheVariants as faults
+use Rattle.archive_format.specs.declared.fault.FormatFault.{FormatFault}
+use Rattle.archive_format.specs.declared.fault.FormatFault.TheVariants.{TooLong}
+use Rattle.demux.specs.declared.fault.DemuxFault.{DemuxFault}
+use Rattle.demux.specs.declared.fault.DemuxFault.TheVariants as faults
 use Rattle.archive_format.specs.Archive.{Taking, Stage, Verdict, goes, bad, short, onward, wrong, next, unless_early, judged, step, item_of, limit, ending, early, size_of, is_stop, is_magic, EndsOf}
 use Rattle.demux.specs.Takes.{Took}
-use Rattle.demux.specs.Steps.{Stuck, Refused, AsksFirst}
+use Rattle.demux.specs.Steps.{Stuck, AsksFirst}
 use Rattle.demux.specs.Told.{Holds, Stands, IsNear, Reach, Whole, Wrong, Part, Stop, Starved, Broken, Tells_fault, Fault_told, End_told, Turns}
 use Rattle.archive_format.proofs.Fronts.{early_fits, item_found, met_length}
 use Rattle.demux.proofs.Takings.{took_join}
@@ -33,7 +35,7 @@ module _ (keep : Taking → Bool) (before old new : Option (List Taking)) (why :
     abbrev reach : Reach all later given
     reach = record { stage = s; to = at; rest = held ++ left; clean = h.clean; near = subst (IsNear (length all) at) (sym still) (omega (arith, size all s at held left given h, room)) }
 
-    whole : (f : DemuxFault) → next s at (take (limit - at) held) ≡ wrong f → Took keep before old given → Took keep old new [] → Wrong all later f keep before new
+    whole : (f : FormatFault) → next s at (take (limit - at) held) ≡ wrong f → Took keep before old given → Took keep old new [] → Wrong all later f keep before new
     whole f e p q = record { whole = record { given = given; ends = fault_found all s at held left given h f e; took = took_same given p q }; reach = reach }
 
     abbrev part : Took keep before old given → Took keep old new [] → Part all later keep before new
@@ -56,19 +58,10 @@ module _ (keep : Taking → Bool) (before old new : Option (List Taking)) (why :
 
     known_stuck : (rose : Type 0) (f : DemuxFault) → (f ≡ faults.NoMemory → rose ⊎ AsksFirst s (take (limit - at) held)) → Took keep before old given → Stuck f (next s at (take (limit - at) held)) keep old new why
         → Tells_fault f all later keep before new why rose
+    known_stuck rose (faults.Format f) cause p u = whole f u.0 p u.1
     known_stuck rose faults.NoMemory cause p u = starved rose (cause refl) p u
     known_stuck rose faults.ReadFault cause p u = absurd u
     known_stuck rose faults.Stopped cause p u = stop u.0 u.1 u.2 u.3 p u.4 u.5
-    known_stuck rose faults.BadMagic cause p u = whole _ u.0 p u.1
-    known_stuck rose (faults.Truncated a) cause p u = whole _ u.0 p u.1
-    known_stuck rose (faults.BadBson a k) cause p u = whole _ u.0 p u.1
-    known_stuck rose (faults.BadPrelude a) cause p u = whole _ u.0 p u.1
-    known_stuck rose (faults.BadHeader a) cause p u = whole _ u.0 p u.1
-    known_stuck rose (faults.AfterEnd n a) cause p u = whole _ u.0 p u.1
-    known_stuck rose (faults.DocsInEnd a) cause p u = whole _ u.0 p u.1
-    known_stuck rose (faults.Crc n a b) cause p u = whole _ u.0 p u.1
-    known_stuck rose (faults.NotEnded n) cause p u = whole _ u.0 p u.1
-    known_stuck rose faults.TooLong cause p u = whole _ u.0 p u.1
 
   pub item_stuck : (first now : Option (List ℕ)) (rose : Type 0) (f : DemuxFault) → Stands first now s at held keep before old → length held ≤ 16793600 → (f ≡ faults.NoMemory → rose ⊎ AsksFirst s (take (limit - at) held))
       → Stuck f (next s at (take (limit - at) held)) keep old new why → Fault_told f first now keep before new why rose
@@ -76,7 +69,7 @@ module _ (keep : Taking → Bool) (before old new : Option (List Taking)) (why :
   item_stuck (Some all) None rose f h room cause u = absurd h.watch
   item_stuck (Some all) (Some left) rose f h room cause u = known_stuck all left (Some left) h.given h.watch room refl rose f cause h.took u
 
-  pub far_told : (first now later : Option (List ℕ)) → Stands first now s at held keep before old → length held ≤ 16793600 → Keeps now later → next s at (take (limit - at) held) ≡ short → limit < at + length held → Took keep old new [] → Fault_told faults.TooLong first later keep before new why ⊥
+  pub far_told : (first now later : Option (List ℕ)) → Stands first now s at held keep before old → length held ≤ 16793600 → Keeps now later → next s at (take (limit - at) held) ≡ short → limit < at + length held → Took keep old new [] → Fault_told (faults.Format TooLong) first later keep before new why ⊥
   far_told None now later h room k e far t = tt
   far_told (Some all) None later h room k e far t = absurd h.watch
   far_told (Some all) (Some left) None h room k e far t = absurd k
@@ -95,32 +88,17 @@ module _ (keep : Taking → Bool) (before old new : Option (List Taking)) (why :
   read_failed (Some all) (Some left) None h room k e t = absurd k
   read_failed (Some all) (Some left) (Some after) h room k e t = broken all left (Some after) h.given h.watch room (ap Some k) e h.took t
 
-  abbrev done_known : (all left : List ℕ) (e : Option DemuxFault) (given : List Taking) → Holds all s at held left given → next s at held ≡ short → at + length held ≤ limit → left ≡ [] → ending false s at held ≡ e → Took keep before old given → Took keep old new [] → Whole all e keep before new
+  abbrev done_known : (all left : List ℕ) (e : Option FormatFault) (given : List Taking) → Holds all s at held left given → next s at held ≡ short → at + length held ≤ limit → left ≡ [] → ending false s at held ≡ e → Took keep before old given → Took keep old new [] → Whole all e keep before new
   done_known all left e given h x near none is p q = record { given = given; ends = subst (λ z. EndsOf all given z) is (ends_short all s at held left given h x near none); took = took_same given p q }
 
-  refused_told : (all : List ℕ) (later : Option (List ℕ)) (f : DemuxFault) → Refused f (bad f) → (f ≡ faults.NoMemory → ⊥) → Wrong all later f keep before new → Tells_fault f all later keep before new why ⊥
-  refused_told all later faults.NoMemory r fed w = absurd (fed refl)
-  refused_told all later faults.ReadFault r fed w = absurd r
-  refused_told all later faults.Stopped r fed w = absurd r
-  refused_told all later faults.BadMagic r fed w = w
-  refused_told all later (faults.Truncated a) r fed w = w
-  refused_told all later (faults.BadBson a k) r fed w = w
-  refused_told all later (faults.BadPrelude a) r fed w = w
-  refused_told all later (faults.BadHeader a) r fed w = w
-  refused_told all later (faults.AfterEnd n a) r fed w = w
-  refused_told all later (faults.DocsInEnd a) r fed w = w
-  refused_told all later (faults.Crc n a b) r fed w = w
-  refused_told all later (faults.NotEnded n) r fed w = w
-  refused_told all later faults.TooLong r fed w = w
-
   -- the end of the input, behind less than an item
-  pub end_refused : (first now later : Option (List ℕ)) (f : DemuxFault) → Stands first now s at held keep before old → length held ≤ 16793600 → next s at held ≡ short → at + length held ≤ limit → Consumes now later [] → IsAtEnd later → ending false s at held ≡ Some f → Refused f (bad f) → (f ≡ faults.NoMemory → ⊥)
-      → Took keep old new [] → Fault_told f first later keep before new why ⊥
-  end_refused None now later f h room x near c z is r fed t = tt
-  end_refused (Some all) None later f h room x near c z is r fed t = absurd h.watch
-  end_refused (Some all) (Some left) None f h room x near c z is r fed t = absurd c
-  end_refused (Some all) (Some left) (Some after) f h room x near c z is r fed t =
-      refused_told all (Some after) f r fed (record { whole = done_known all left (Some f) h.given h.watch x near (c ∙ z) is h.took t; reach = reach all left (Some after) h.given h.watch room (ap Some (sym c)) })
+  pub end_refused : (first now later : Option (List ℕ)) (f : FormatFault) → Stands first now s at held keep before old → length held ≤ 16793600 → next s at held ≡ short → at + length held ≤ limit → Consumes now later [] → IsAtEnd later → ending false s at held ≡ Some f → Took keep old new []
+      → Fault_told (faults.Format f) first later keep before new why ⊥
+  end_refused None now later f h room x near c z is t = tt
+  end_refused (Some all) None later f h room x near c z is t = absurd h.watch
+  end_refused (Some all) (Some left) None f h room x near c z is t = absurd c
+  end_refused (Some all) (Some left) (Some after) f h room x near c z is t =
+      record { whole = done_known all left (Some f) h.given h.watch x near (c ∙ z) is h.took t; reach = reach all left (Some after) h.given h.watch room (ap Some (sym c)) }
 
   pub end_accepted : (first now later : Option (List ℕ)) → Stands first now s at held keep before old → next s at held ≡ short → at + length held ≤ limit → Consumes now later [] → IsAtEnd later → ending false s at held ≡ None → Took keep old new [] → End_told first later keep before new
   end_accepted None now later h x near c z is t = tt
@@ -129,19 +107,10 @@ module _ (keep : Taking → Bool) (before old new : Option (List Taking)) (why :
   end_accepted (Some all) (Some left) (Some after) h x near c z is t = (ap Some z, done_known all left None h.given h.watch x near (c ∙ z) is h.took t)
 
 any_rose : (f : DemuxFault) (all : List ℕ) (now : Option (List ℕ)) (keep : Taking → Bool) (before kept : Option (List Taking)) (why : Taking → Bool) (rose : Type 0) → Tells_fault f all now keep before kept why ⊥ → Tells_fault f all now keep before kept why rose
+any_rose (faults.Format f) all now keep before kept why rose t = t
 any_rose faults.NoMemory all now keep before kept why rose t = record { part = t.part; cause = elim t.cause [ inl never ↦ absurd never | inr asks ↦ inr asks ] }
 any_rose faults.ReadFault all now keep before kept why rose t = t
 any_rose faults.Stopped all now keep before kept why rose t = t
-any_rose faults.BadMagic all now keep before kept why rose t = t
-any_rose (faults.Truncated a) all now keep before kept why rose t = t
-any_rose (faults.BadBson a k) all now keep before kept why rose t = t
-any_rose (faults.BadPrelude a) all now keep before kept why rose t = t
-any_rose (faults.BadHeader a) all now keep before kept why rose t = t
-any_rose (faults.AfterEnd n a) all now keep before kept why rose t = t
-any_rose (faults.DocsInEnd a) all now keep before kept why rose t = t
-any_rose (faults.Crc n a b) all now keep before kept why rose t = t
-any_rose (faults.NotEnded n) all now keep before kept why rose t = t
-any_rose faults.TooLong all now keep before kept why rose t = t
 
 -- what is told without want of memory holds whatever the taker found
 pub of_no_rose : (r : Result (Option ℕ) DemuxFault) (first now : Option (List ℕ)) (s : Stage) (held : List ℕ) (keep : Taking → Bool) (before kept : Option (List Taking)) (why : Taking → Bool) (rose : Type 0)
@@ -170,7 +139,7 @@ size_fits s at word e = elim (cases_Bool (is_stop word)) [
   ]
 ]
 
-short_by : (s : Stage) (at : ℕ) (bytes word : List ℕ) (x : Option DemuxFault) → early s.place at word ≡ x → unless_early s at bytes word x ≡ short → length bytes < 16793600
+short_by : (s : Stage) (at : ℕ) (bytes word : List ℕ) (x : Option FormatFault) → early s.place at word ≡ x → unless_early s at bytes word x ≡ short → length bytes < 16793600
 short_by s at bytes word (Some f) is e = absurd (cc)
 short_by s at bytes word None is e = elim (cases_lt (length bytes) (size_of word)) [
   | inl lt ↦ omega (arith, lt, size_fits s at word is)

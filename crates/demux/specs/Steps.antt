@@ -4,27 +4,40 @@ use Rattle.bson_value.specs.declared.namespace.NsName.{NsName}
 use Rattle.bson_check.specs.declared.fault.BsonFault.{BsonFault}
 use Rattle.archive_prelude.specs.declared.prelude.Meta.{Meta}
 use Rattle.archive_format.specs.Archive.{Item, text_of, IsItem, Taking, meta, Seen, Stage, Verdict, goes, bad, Asks, Next, short, onward, wrong}
-use Rattle.archive_format.specs.declared.fault.DemuxFault.{DemuxFault}
-use Rattle.archive_format.specs.declared.fault.DemuxFault.TheVariants as faults
+use Rattle.archive_format.specs.declared.fault.FormatFault.{FormatFault}
+use Rattle.archive_format.specs.declared.fault.FormatFault.TheVariants as formats
+use Rattle.demux.specs.declared.fault.DemuxFault.{DemuxFault}
+use Rattle.demux.specs.declared.fault.DemuxFault.TheVariants as faults
+use Rattle.demux.specs.declared.taker.Halt.{Halt}
+use Rattle.demux.specs.declared.taker.Halt.TheVariants as halts
 use Rattle.demux.specs.Takes.{Took}
 use Rattle.demux.specs.declared.progress.Progress.{Progress}
 
 abbrev pub stage_of : Progress → Stage
 stage_of p = record { place = p.place; metas = p.metas; seen = p.seen }
 
--- the fault is that of bytes that are no document of BSON, or want of memory
+-- the fault that a halt of the taker is
+abbrev pub halt_fault : Halt → DemuxFault
+halt_fault halts.Stopped = faults.Stopped
+halt_fault halts.NoMemory = faults.NoMemory
+
+-- the fault of bytes that are no document of BSON
+abbrev pub IsUnread : FormatFault → ℕ → Option BsonFault → Type 0
+IsUnread (formats.BadBson a k) at (Some f) = (a ≡ at) × (k ≡ f.kind)
+IsUnread f at x = ⊥
+
+-- the same, or want of memory
 abbrev pub Unread : DemuxFault → ℕ → Option BsonFault → Type 0
 Unread faults.NoMemory at x = ⊤
-Unread (faults.BadBson a k) at None = ⊥
-Unread (faults.BadBson a k) at (Some f) = (a ≡ at) × (k ≡ f.kind)
+Unread (faults.Format f) at x = IsUnread f at x
 Unread f at x = ⊥
 
 -- a fault of the grammar, of the taker, who tells of the taking at which it stopped, or want of memory. Nothing was taken then
 abbrev pub Halted : DemuxFault → Verdict → (Taking → Bool) → Option (List Taking) → Option (List Taking) → (Taking → Bool) → Type 0
+Halted (faults.Format f) v keep old new why = (v ≡ bad f) × Took keep old new []
 Halted faults.NoMemory v keep old new why = Took keep old new []
 Halted faults.ReadFault v keep old new why = ⊥
 Halted faults.Stopped v keep old new why = (t : Stage) × (one : Taking) × (v ≡ goes t (one ∷ [])) × Took keep old new [] × (why one ≡ true)
-Halted f v keep old new why = (v ≡ bad f) × Took keep old new []
 
 -- the verdict on the item, and what was handed out
 abbrev pub Stepped : {U : Type 0} → Result U DemuxFault → Stage → Verdict → (Taking → Bool) → Option (List Taking) → Option (List Taking) → (Taking → Bool) → Type 0
@@ -32,11 +45,15 @@ Stepped (Ok u) t v keep old new why = (ts : List Taking) × (v ≡ goes t ts) ×
 Stepped (Err f) t v keep old new why = Halted f v keep old new why
 
 -- the same of an item that hands out nothing
+abbrev pub Passes : {U : Type 0} → Result U FormatFault → Stage → Verdict → Type 0
+Passes (Ok u) t v = v ≡ goes t []
+Passes (Err f) t v = v ≡ bad f
+
+-- a fault of the grammar, or want of memory
 abbrev pub Refused : DemuxFault → Verdict → Type 0
+Refused (faults.Format f) v = v ≡ bad f
 Refused faults.NoMemory v = ⊤
-Refused faults.ReadFault v = ⊥
-Refused faults.Stopped v = ⊥
-Refused f v = v ≡ bad f
+Refused f v = ⊥
 
 abbrev pub Quiet : {U : Type 0} → Result U DemuxFault → Stage → Verdict → Type 0
 Quiet (Ok u) t v = v ≡ goes t []
@@ -49,16 +66,16 @@ Notes (Ok (Some m)) t v = v ≡ goes t (meta m.ns m.text ∷ [])
 Notes (Err f) t v = Refused f v
 
 -- the same of an item that hands out one taking of the namespace with this number
-abbrev pub Names : {U : Type 0} → Result U DemuxFault → Stage → Verdict → ℕ → (NsName → Taking) → Type 0
+abbrev pub Names : {U : Type 0} → Result U FormatFault → Stage → Verdict → ℕ → (NsName → Taking) → Type 0
 Names (Ok u) t v i one = (e : Seen) × (slice_get t.seen i ≡ Some e) × (v ≡ goes t (one e.ns ∷ []))
-Names (Err f) t v i one = Refused f v
+Names (Err f) t v i one = v ≡ bad f
 
 -- what reading shows at a place, and what was handed out
 abbrev pub Stuck : DemuxFault → Next → (Taking → Bool) → Option (List Taking) → Option (List Taking) → (Taking → Bool) → Type 0
+Stuck (faults.Format f) x keep old new why = (x ≡ wrong f) × Took keep old new []
 Stuck faults.NoMemory x keep old new why = Took keep old new []
 Stuck faults.ReadFault x keep old new why = ⊥
 Stuck faults.Stopped x keep old new why = (t : Stage) × (one : Taking) × (n : ℕ) × (x ≡ onward t (one ∷ []) n) × Took keep old new [] × (why one ≡ true)
-Stuck f x keep old new why = (x ≡ wrong f) × Took keep old new []
 
 abbrev pub Turned : Result (Option ℕ) DemuxFault → Stage → Next → (Taking → Bool) → Option (List Taking) → Option (List Taking) → Stage → (Taking → Bool) → Type 0
 Turned (Ok None) t x keep old new s why = (x ≡ short) × (t ≡ s) × Took keep old new []
@@ -66,9 +83,9 @@ Turned (Ok (Some n)) t x keep old new s why = (ts : List Taking) × (x ≡ onwar
 Turned (Err f) t x keep old new s why = Stuck f x keep old new why
 
 -- no fault, or this one
-abbrev pub Closes : {U : Type 0} → Result U DemuxFault → Option DemuxFault → Type 0
+abbrev pub Closes : {U : Type 0} → Result U FormatFault → Option FormatFault → Type 0
 Closes (Ok u) e = e ≡ None
-Closes (Err f) e = (e ≡ Some f) × Refused f (bad f)
+Closes (Err f) e = e ≡ Some f
 
 -- the bytes begin with an item that asks for memory
 pub record AsksFirst (s : Stage) (bytes : List ℕ) : Type 0 where

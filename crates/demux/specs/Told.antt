@@ -3,8 +3,9 @@ use Rattle.std.specs.Prelude.{length, ◌+◌, ◌≤◌, ◌⊎◌, ⊤, ℕ, �
 use Rattle.archive_format.specs.Archive.{Taking, Stage, start, Clean, limit, next, short, EndsOf}
 use Rattle.demux.specs.Takes.{Took}
 use Rattle.demux.specs.Steps.{AsksFirst}
-use Rattle.archive_format.specs.declared.fault.DemuxFault.{DemuxFault}
-use Rattle.archive_format.specs.declared.fault.DemuxFault.TheVariants as faults
+use Rattle.archive_format.specs.declared.fault.FormatFault.{FormatFault}
+use Rattle.demux.specs.declared.fault.DemuxFault.{DemuxFault}
+use Rattle.demux.specs.declared.fault.DemuxFault.TheVariants as faults
 
 -- a place is no more than the window's length before the last byte that was read
 abbrev pub IsNear : ℕ → ℕ → Option (List ℕ) → Type 0
@@ -36,13 +37,13 @@ pub record Reach (all : List ℕ) (now : Option (List ℕ)) (given : List Taking
   pub near : IsNear (length all) to now
 
 -- the taker was given the takings of the longest clean front, behind which there is this fault or none
-pub record Whole (all : List ℕ) (e : Option DemuxFault) (keep : Taking → Bool) (before kept : Option (List Taking)) : Type 0 where
+pub record Whole (all : List ℕ) (e : Option FormatFault) (keep : Taking → Bool) (before kept : Option (List Taking)) : Type 0 where
   pub given : List Taking
   pub ends : EndsOf all given e
   pub took : Took keep before kept given
 
 -- the same of a fault, and how far the input was read
-pub record Wrong (all : List ℕ) (now : Option (List ℕ)) (f : DemuxFault) (keep : Taking → Bool) (before kept : Option (List Taking)) : Type 0 where
+pub record Wrong (all : List ℕ) (now : Option (List ℕ)) (f : FormatFault) (keep : Taking → Bool) (before kept : Option (List Taking)) : Type 0 where
   pub whole : Whole all (Some f) keep before kept
   pub reach : Reach all now whole.given
 
@@ -50,7 +51,7 @@ pub record Wrong (all : List ℕ) (now : Option (List ℕ)) (f : DemuxFault) (ke
 pub record Part (all : List ℕ) (now : Option (List ℕ)) (keep : Taking → Bool) (before kept : Option (List Taking)) : Type 0 where
   pub given : List Taking
   pub more : List Taking
-  pub fault : Option DemuxFault
+  pub fault : Option FormatFault
   pub ends : EndsOf all (given ++ more) fault
   pub took : Took keep before kept given
   pub reach : Reach all now given
@@ -60,7 +61,7 @@ pub record Stop (all : List ℕ) (now : Option (List ℕ)) (keep : Taking → Bo
   pub given : List Taking
   pub refused : Taking
   pub more : List Taking
-  pub fault : Option DemuxFault
+  pub fault : Option FormatFault
   pub ends : EndsOf all (given ++ (refused ∷ more)) fault
   pub took : Took keep before kept given
   pub told : why refused ≡ true
@@ -81,10 +82,10 @@ pub record Broken (all : List ℕ) (now : Option (List ℕ)) (keep : Taking → 
   pub unsettled : next part.reach.stage part.reach.to held ≡ short
 
 abbrev pub Tells_fault : DemuxFault → List ℕ → Option (List ℕ) → (Taking → Bool) → Option (List Taking) → Option (List Taking) → (Taking → Bool) → Type 0 → Type 0
+Tells_fault (faults.Format f) all now keep before kept why rose = Wrong all now f keep before kept
 Tells_fault faults.NoMemory all now keep before kept why rose = Starved all now keep before kept rose
 Tells_fault faults.ReadFault all now keep before kept why rose = Broken all now keep before kept
 Tells_fault faults.Stopped all now keep before kept why rose = Stop all now keep before kept why
-Tells_fault f all now keep before kept why rose = Wrong all now f keep before kept
 
 abbrev pub Fault_told : DemuxFault → Option (List ℕ) → Option (List ℕ) → (Taking → Bool) → Option (List Taking) → Option (List Taking) → (Taking → Bool) → Type 0 → Type 0
 Fault_told f None now keep before kept why rose = ⊤

@@ -3,10 +3,11 @@ ghost use Rattle.std.specs.Prelude.{◌≡◌, ⊤, List, Option, Some, None, Ok
 ghost use Rattle.archive_format.specs.Shapes.{named};
 ghost use Rattle.archive_format.specs.Archive.{header_in, metadata_in, head_in, fault_in, fields_of};
 ghost use Rattle.archive_prelude.specs.Parts.{metadata_of};
-ghost use Rattle.demux.specs.Steps.{Unread};
+ghost use Rattle.demux.specs.Steps.{IsUnread, Unread};
 
+use crate::fault::DemuxFault;
 use archive_blocks::{NsHead, read_ns_head};
-use archive_format::DemuxFault;
+use archive_format::FormatFault;
 use archive_prelude::{Meta, PreludeFault, read_header, read_meta};
 use bson_check::{BsonFault, DecodeFault, MAX_DOCUMENT_BYTES, MAX_LEVELS, check};
 use bson_core::decode;
@@ -15,14 +16,13 @@ use std::alloc::Global;
 
 /// The bytes are a document.
 #[tactic(auto, unfolding(archive_format::specs::Archive::fault_in, archive_format::specs::Archive::fields_of, bson_check::specs::Faults::first_fault))]
-pub fn checked(at: u64, bytes: &[u8]) -> Result<(), DemuxFault>
+pub fn checked(at: u64, bytes: &[u8]) -> Result<(), FormatFault>
     ensures ok { OnOk result (fault_in bytes.now ≡ None) }
-    ensures err { IfErr result (λ f. Unread f at (fault_in bytes.now)) }
-    ensures fed { IfErr result (λ f. f ≡ DemuxFault.NoMemory → ⊥) }
+    ensures err { IfErr result (λ f. IsUnread f at (fault_in bytes.now)) }
 {
     match check(bytes, MAX_DOCUMENT_BYTES, MAX_LEVELS) {
         Ok(()) => Ok(()),
-        Err(fault) => Err(DemuxFault::BadBson {
+        Err(fault) => Err(FormatFault::BadBson {
             at,
             kind: fault.kind,
         }),
@@ -37,10 +37,10 @@ fn decoded(alloc: Global, at: u64, bytes: &[u8]) -> Result<Doc, DemuxFault>
     match decode(alloc, bytes, MAX_DOCUMENT_BYTES, MAX_LEVELS) {
         Ok(doc) => Ok(doc),
         Err(DecodeFault::NoMemory) => Err(DemuxFault::NoMemory),
-        Err(DecodeFault::Bad(fault)) => Err(DemuxFault::BadBson {
+        Err(DecodeFault::Bad(fault)) => Err(DemuxFault::Format(FormatFault::BadBson {
             at,
             kind: fault.kind,
-        }),
+        })),
     }
 }
 
@@ -73,10 +73,9 @@ pub fn metadata(alloc: Global, at: u64, bytes: &[u8]) -> Result<Option<Meta>, De
 }
 
 /// What a block's header says, if the bytes are one. It takes no memory.
-pub fn head(at: u64, bytes: &[u8]) -> Result<Option<NsHead<'_>>, DemuxFault>
+pub fn head(at: u64, bytes: &[u8]) -> Result<Option<NsHead<'_>>, FormatFault>
     ensures ok { IfOk result (λ o. (fault_in bytes.now ≡ None) × (head_in bytes.now ≡ option_map (λ h. record { ns = named h.db.now h.coll.now; eof = h.eof; crc = h.crc }) o)) }
-    ensures err { IfErr result (λ f. Unread f at (fault_in bytes.now)) }
-    ensures fed { IfErr result (λ f. f ≡ DemuxFault.NoMemory → ⊥) }
+    ensures err { IfErr result (λ f. IsUnread f at (fault_in bytes.now)) }
 {
     checked(at, bytes)?;
     match read_ns_head(bytes) {

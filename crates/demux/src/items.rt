@@ -4,10 +4,11 @@ ghost use Rattle.tool_io.specs.Causes.{Rose};
 ghost use Rattle.archive_format.specs.Archive.{terminator, document, sound, meta_step, doc_step, end_step, metadata_in, fault_in, step, item_of, next, Asks};
 ghost use Rattle.demux.specs.Steps.{stage_of, Stepped, Turned, AsksFirst};
 
+use crate::fault::DemuxFault;
 use crate::progress::Progress;
-use crate::steps::{early, halted, is_magic, is_stop, size_of};
+use crate::steps::{early, is_magic, is_stop, size_of};
 use crate::taker::DocTaker;
-use archive_format::{DemuxFault, Place};
+use archive_format::{FormatFault, Place};
 
 impl Progress {
     fn metadata<T: DocTaker>(
@@ -22,13 +23,9 @@ impl Progress {
         ensures fresh { OnOk result ((T.stops taker.new ≡ 0) × (T.starved taker.new ≡ 0)) }
         ensures stopped { IsErrOf result DemuxFault.Stopped → Rose (T.stops taker.old) (T.stops taker.new) }
     {
-        match self.note_metadata(at, bytes) {
-            Err(fault) => Err(fault),
-            Ok(None) => Ok(()),
-            Ok(Some(meta)) => match taker.meta(&meta.ns, meta.text.as_str()) {
-                Ok(()) => Ok(()),
-                Err(halt) => Err(halted(halt)),
-            },
+        match self.note_metadata(at, bytes)? {
+            None => Ok(()),
+            Some(meta) => Ok(taker.meta(&meta.ns, meta.text.as_str())?),
         }
     }
 
@@ -46,15 +43,10 @@ impl Progress {
         ensures stopped { IsErrOf result DemuxFault.Stopped → Rose (T.stops taker.old) (T.stops taker.new) }
         ensures starved { IsErrOf result DemuxFault.NoMemory → Rose (T.starved taker.old) (T.starved taker.new) }
     {
-        match self.add_document(at, i, bytes) {
-            Err(fault) => Err(fault),
-            Ok(()) => match self.name_of(i) {
-                None => Err(DemuxFault::BadHeader { at }),
-                Some(ns) => match taker.doc(ns, bytes) {
-                    Ok(()) => Ok(()),
-                    Err(halt) => Err(halted(halt)),
-                },
-            },
+        self.add_document(at, i, bytes)?;
+        match self.name_of(i) {
+            None => Err(DemuxFault::Format(FormatFault::BadHeader { at })),
+            Some(ns) => Ok(taker.doc(ns, bytes)?),
         }
     }
 
@@ -72,15 +64,10 @@ impl Progress {
         ensures stopped { IsErrOf result DemuxFault.Stopped → Rose (T.stops taker.old) (T.stops taker.new) }
         ensures starved { IsErrOf result DemuxFault.NoMemory → Rose (T.starved taker.old) (T.starved taker.new) }
     {
-        match self.mark_ended(at, i, said) {
-            Err(fault) => Err(fault),
-            Ok(()) => match self.name_of(i) {
-                None => Err(DemuxFault::BadHeader { at }),
-                Some(ns) => match taker.end(ns) {
-                    Ok(()) => Ok(()),
-                    Err(halt) => Err(halted(halt)),
-                },
-            },
+        self.mark_ended(at, i, said)?;
+        match self.name_of(i) {
+            None => Err(DemuxFault::Format(FormatFault::BadHeader { at })),
+            Some(ns) => Ok(taker.end(ns)?),
         }
     }
 
@@ -99,12 +86,12 @@ impl Progress {
         ensures starved { IsErrOf result DemuxFault.NoMemory → Rose (T.starved taker.old) (T.starved taker.new) ⊎ Asks (stage_of self.old) (document bytes.now) }
     {
         match self.place {
-            Place::Front => Err(DemuxFault::BadMagic),
+            Place::Front => Err(DemuxFault::Format(FormatFault::BadMagic)),
             Place::Header => self.header(at, bytes),
             Place::Metas => self.metadata(at, bytes, taker),
             Place::Blocks => self.head(at, bytes),
             Place::Inside(i) => self.block_document(at, i, bytes, taker),
-            Place::Ending(_, _) => Err(DemuxFault::DocsInEnd { at }),
+            Place::Ending(_, _) => Err(DemuxFault::Format(FormatFault::DocsInEnd { at })),
         }
     }
 
@@ -118,13 +105,13 @@ impl Progress {
         ensures starved { IsErrOf result DemuxFault.NoMemory → Rose (T.starved taker.old) (T.starved taker.new) }
     {
         match self.place {
-            Place::Front => Err(DemuxFault::BadMagic),
-            Place::Header => Err(DemuxFault::BadPrelude { at }),
+            Place::Front => Err(DemuxFault::Format(FormatFault::BadMagic)),
+            Place::Header => Err(DemuxFault::Format(FormatFault::BadPrelude { at })),
             Place::Metas => {
                 self.place = Place::Blocks;
                 Ok(())
             }
-            Place::Blocks => Err(DemuxFault::BadHeader { at }),
+            Place::Blocks => Err(DemuxFault::Format(FormatFault::BadHeader { at })),
             Place::Inside(_) => {
                 self.place = Place::Blocks;
                 Ok(())
@@ -153,7 +140,7 @@ impl Progress {
             return self.terminator(at, taker);
         }
         if is_magic(word) {
-            return self.magic(at);
+            return Ok(self.magic(at)?);
         }
         self.document(at, bytes, taker)
     }
@@ -178,7 +165,7 @@ impl Progress {
         }
         let word = &held[..4];
         if let Some(fault) = early(self.place, at, word) {
-            return Err(fault);
+            return Err(DemuxFault::Format(fault));
         }
         let size = size_of(word);
         if held.len() < size {

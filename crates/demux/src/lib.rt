@@ -2,6 +2,7 @@
 #![tactic(auto)]
 
 mod documents;
+mod fault;
 mod index;
 mod items;
 mod metas;
@@ -13,6 +14,6 @@ mod steps;
 mod taker;
 mod window;
 
-pub use archive_format::DemuxFault;
+pub use fault::DemuxFault;
 pub use run::Demux;
 pub use taker::{DocTaker, Halt};

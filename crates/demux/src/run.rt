@@ -6,20 +6,21 @@ ghost use Rattle.archive_format.specs.Archive.{Taking, Seen as Entry, start, end
 ghost use Rattle.demux.specs.Steps.{stage_of, Closes};
 ghost use Rattle.demux.specs.Told.{Stands, Turns, Tells};
 
+use crate::fault::DemuxFault;
 use crate::metas::Metas;
 use crate::namespaces::Namespaces;
 use crate::progress::Progress;
 use crate::seen::Seen;
 use crate::taker::DocTaker;
 use crate::window::Window;
-use archive_format::{DemuxFault, Place};
+use archive_format::{FormatFault, Place};
 use bson_check::MAX_DOCUMENT_BYTES;
 use std::alloc::{AllocError, Global};
 use tool_io::Source;
 
 // The place of the first namespace that wasn't ended.
 fn first_open(seen: &[Seen]) -> Option<usize>
-    ensures { MatchOption result (open_of seen.now ≡ None) (λ i. (e : Entry) × (slice_get seen.now i ≡ Some e) × (open_of seen.now ≡ Some (DemuxFault.NotEnded e.ns))) }
+    ensures { MatchOption result (open_of seen.now ≡ None) (λ i. (e : Entry) × (slice_get seen.now i ≡ Some e) × (open_of seen.now ≡ Some (FormatFault.NotEnded e.ns))) }
 {
     let mut i = 0;
     'entries: while i < seen.len() {
@@ -33,20 +34,19 @@ fn first_open(seen: &[Seen]) -> Option<usize>
 
 /// How an input ends that isn't beyond the limit.
 #[tactic(auto, unfolding(archive_format::specs::Archive::ending))]
-fn ending(progress: &mut Progress, at: u64, held: &[u8]) -> Result<(), DemuxFault>
+fn ending(progress: &mut Progress, at: u64, held: &[u8]) -> Result<(), FormatFault>
     requires { at + length held.now < 2 ^ 64 }
-    ensures closes { Closes result (ending false (stage_of progress.old) at held.now) }
-    ensures fed { IfErr result (λ f. f ≡ DemuxFault.NoMemory → ⊥) }
+    ensures { Closes result (ending false (stage_of progress.old) at held.now) }
 {
     if held.is_empty() && matches!(progress.place, Place::Blocks) {
         return match first_open(progress.seen.as_slice()) {
             None => Ok(()),
-            Some(i) => Err(DemuxFault::NotEnded {
+            Some(i) => Err(FormatFault::NotEnded {
                 ns: progress.seen.take_name(i),
             }),
         };
     }
-    Err(DemuxFault::Truncated {
+    Err(FormatFault::Truncated {
         at: at + held.len() as u64,
     })
 }
@@ -77,25 +77,25 @@ fn more<S: Source>(
     requires room { length window.old.bytes ≤ 16793600 }
     requires short { next (stage_of progress.old) at (take (limit - at) window.old.bytes) ≡ short }
     ensures room { OnOk result (length window.new.bytes ≤ 16793600) }
-    ensures turns { (first : Option (List ℕ)) (keep why : Taking → Bool) (before kept : Option (List Taking)) → Stands first (S.left source.old) (stage_of progress.old) at window.old.bytes keep before kept
-        → Turns result first (S.left source.new) (stage_of progress.new) window.new.bytes keep before kept why ⊥ }
+    ensures turns { (first : Option (List ℕ)) (keep why : Taking → Bool) (before kept : Option (List Taking)) → Stands first (S.end source.old).bytes (stage_of progress.old) at window.old.bytes keep before kept
+        → Turns result first (S.end source.new).bytes (stage_of progress.new) window.new.bytes keep before kept why ⊥ }
     ensures size { window.new.size ≡ window.old.size }
     ensures on { IfOk result (λ r. IfSome r (λ b. (b ≡ at) × (length window.old.bytes < length window.new.bytes))) }
-    ensures read_fault { IsErrOf result DemuxFault.ReadFault → Rose (S.faults source.old) (S.faults source.new) }
-    ensures still { OnErr result (Keeps (S.left source.old) (S.left source.new)) }
+    ensures read_fault { IsErrOf result DemuxFault.ReadFault → Rose (S.end source.old).faults (S.end source.new).faults }
+    ensures still { OnErr result (Keeps (S.end source.old).bytes (S.end source.new).bytes) }
     ensures not_stopped { IsErrOf result DemuxFault.Stopped → ⊥ }
     ensures fed { IsErrOf result DemuxFault.NoMemory → ⊥ }
-    ensures later { S.faults source.old ≤ S.faults source.new }
+    ensures later { (S.end source.old).faults ≤ (S.end source.new).faults }
 {
     let seen = window.held().len() as u64;
     if LIMIT - at < seen {
-        return Err(DemuxFault::TooLong);
+        return Err(DemuxFault::Format(FormatFault::TooLong));
     }
     match window.fill(source) {
         Err(_) => Err(DemuxFault::ReadFault),
         Ok(0) => match ending(progress, at, window.held()) {
             Ok(()) => Ok(None),
-            Err(end) => Err(end),
+            Err(fault) => Err(DemuxFault::Format(fault)),
         },
         Ok(_) => Ok(Some(at)),
     }
@@ -114,15 +114,15 @@ fn turn<S: Source, T: DocTaker>(
     requires size { window.old.size ≡ 16793600 }
     requires room { length window.old.bytes ≤ 16793600 }
     ensures room { OnOk result (length window.new.bytes ≤ 16793600) }
-    ensures turns { (first : Option (List ℕ)) (before : Option (List Taking)) → Stands first (S.left source.old) (stage_of progress.old) at window.old.bytes (T.keeps taker.old) before (T.kept taker.old)
-        → Turns result first (S.left source.new) (stage_of progress.new) window.new.bytes (T.keeps taker.old) before (T.kept taker.new) (T.halted taker.new) (Rose (T.starved taker.old) (T.starved taker.new)) }
+    ensures turns { (first : Option (List ℕ)) (before : Option (List Taking)) → Stands first (S.end source.old).bytes (stage_of progress.old) at window.old.bytes (T.keeps taker.old) before (T.kept taker.old)
+        → Turns result first (S.end source.new).bytes (stage_of progress.new) window.new.bytes (T.keeps taker.old) before (T.kept taker.new) (T.halted taker.new) (Rose (T.starved taker.old) (T.starved taker.new)) }
     ensures same { T.keeps taker.new ≡ T.keeps taker.old }
     ensures size { window.new.size ≡ window.old.size }
     ensures on { IfOk result (λ r. IfSome r (λ b. (b ≤ limit) × (at + (at + length window.old.bytes) < b + (b + length window.new.bytes)))) }
     ensures fresh { OnOk result ((T.stops taker.new ≡ 0) × (T.starved taker.new ≡ 0)) }
-    ensures read_fault { IsErrOf result DemuxFault.ReadFault → Rose (S.faults source.old) (S.faults source.new) }
+    ensures read_fault { IsErrOf result DemuxFault.ReadFault → Rose (S.end source.old).faults (S.end source.new).faults }
     ensures stopped { IsErrOf result DemuxFault.Stopped → Rose (T.stops taker.old) (T.stops taker.new) }
-    ensures later { S.faults source.old ≤ S.faults source.new }
+    ensures later { (S.end source.old).faults ≤ (S.end source.new).faults }
 {
     match progress.item(at, within(window.held(), LIMIT - at), taker) {
         Err(fault) => Err(fault),
@@ -165,12 +165,12 @@ impl Demux {
         taker: &mut T,
     ) -> Result<(), DemuxFault>
         requires fresh { (T.stops taker.old ≡ 0) × (T.starved taker.old ≡ 0) }
-        ensures told { Tells result (S.left source.old) (S.left source.new) (T.keeps taker.old) (T.kept taker.old) (T.kept taker.new) (T.halted taker.new) (Rose 0 (T.starved taker.new)) }
-        ensures read_fault { IsErrOf result DemuxFault.ReadFault → Rose (S.faults source.old) (S.faults source.new) }
+        ensures told { Tells result (S.end source.old).bytes (S.end source.new).bytes (T.keeps taker.old) (T.kept taker.old) (T.kept taker.new) (T.halted taker.new) (Rose 0 (T.starved taker.new)) }
+        ensures read_fault { IsErrOf result DemuxFault.ReadFault → Rose (S.end source.old).faults (S.end source.new).faults }
         ensures stopped { IsErrOf result DemuxFault.Stopped → Rose 0 (T.stops taker.new) }
         ensures fresh { OnOk result ((T.stops taker.new ≡ 0) × (T.starved taker.new ≡ 0)) }
         ensures same { T.keeps taker.new ≡ T.keeps taker.old }
-        ensures later { S.faults source.old ≤ S.faults source.new }
+        ensures later { (S.end source.old).faults ≤ (S.end source.new).faults }
     {
         let mut window = self.window;
         let mut progress = self.progress;

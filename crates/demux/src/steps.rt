@@ -2,13 +2,13 @@
 ghost use Rattle.std.specs.Prelude.{◌≡◌, ◌∷◌, [], true, Some, ◌<◌, length, is_some, None, IsErrOf, IfErr, IfSome, OnOk, slice_get, option_map};
 ghost use Rattle.std.specs.Option.{option_copied};
 ghost use Rattle.archive_format.specs.Shapes.{named};
-ghost use Rattle.archive_format.specs.Archive.{Seen as Entry, goes, closed_entry, magic, document, step_at, sound, header_step, meta_step, head_step, doc_step, end_step, early, lengthy, size_of, number, is_stop, is_magic, meta_place, seat_of, bad, opened, opened_entry, behind, header_in, metadata_in, head_in, fault_in, IsNew, doc, end};
-ghost use Rattle.demux.specs.Steps.{stage_of, Quiet, Refused, Notes, Names};
+ghost use Rattle.archive_format.specs.Archive.{Seen as Entry, goes, closed_entry, magic, document, step_at, sound, header_step, meta_step, head_step, doc_step, end_step, early, lengthy, size_of, number, is_stop, is_magic, meta_place, seat_of, opened, opened_entry, behind, header_in, metadata_in, head_in, fault_in, IsNew, doc, end};
+ghost use Rattle.demux.specs.Steps.{stage_of, Passes, Quiet, Notes, Names};
 
 use crate::documents::{checked, head, is_header, metadata};
+use crate::fault::DemuxFault;
 use crate::progress::Progress;
-use crate::taker::Halt;
-use archive_format::{DemuxFault, MAGIC, Place, TERMINATOR, is_oplog};
+use archive_format::{FormatFault, MAGIC, Place, TERMINATOR, is_oplog};
 use archive_prelude::Meta;
 use bson_check::BsonKind;
 use bson_value::NsName;
@@ -35,19 +35,17 @@ fn number(word: &[u8]) -> u32
 }
 
 #[tactic(auto, unfolding(archive_format::specs::Archive::lengthy))]
-fn lengthy(at: u64, count: u32) -> Option<DemuxFault>
+fn lengthy(at: u64, count: u32) -> Option<FormatFault>
     ensures value { result ≡ lengthy at count }
-    ensures plain { IfSome result (λ f. Refused f (bad f)) }
-    ensures fed { IfSome result (λ f. f ≡ DemuxFault.NoMemory → ⊥) }
 {
     if count < 5 || 2147483647 < count {
-        return Some(DemuxFault::BadBson {
+        return Some(FormatFault::BadBson {
             at,
             kind: BsonKind::Length,
         });
     }
     if 16793600 < count {
-        return Some(DemuxFault::BadBson {
+        return Some(FormatFault::BadBson {
             at,
             kind: BsonKind::TooLong,
         });
@@ -57,30 +55,28 @@ fn lengthy(at: u64, count: u32) -> Option<DemuxFault>
 
 /// The fault that the first four bytes show by themselves.
 #[tactic(auto, unfolding(archive_format::specs::Archive::early))]
-pub fn early(place: Place, at: u64, word: &[u8]) -> Option<DemuxFault>
+pub fn early(place: Place, at: u64, word: &[u8]) -> Option<FormatFault>
     requires { length word.now ≡ 4 }
     ensures value { result ≡ early place at word.now }
-    ensures plain { IfSome result (λ f. Refused f (bad f)) }
-    ensures fed { IfSome result (λ f. f ≡ DemuxFault.NoMemory → ⊥) }
 {
     match place {
         Place::Front => {
             if is_magic(word) {
                 None
             } else {
-                Some(DemuxFault::BadMagic)
+                Some(FormatFault::BadMagic)
             }
         }
         Place::Header => {
             if is_stop(word) {
-                Some(DemuxFault::BadPrelude { at })
+                Some(FormatFault::BadPrelude { at })
             } else {
                 lengthy(at, number(word))
             }
         }
         Place::Blocks => {
             if is_stop(word) {
-                Some(DemuxFault::BadHeader { at })
+                Some(FormatFault::BadHeader { at })
             } else {
                 lengthy(at, number(word))
             }
@@ -96,7 +92,7 @@ pub fn early(place: Place, at: u64, word: &[u8]) -> Option<DemuxFault>
             if is_stop(word) {
                 None
             } else {
-                Some(DemuxFault::DocsInEnd { at })
+                Some(FormatFault::DocsInEnd { at })
             }
         }
     }
@@ -113,16 +109,6 @@ pub fn size_of(word: &[u8]) -> usize
     number(word) as usize
 }
 
-pub fn halted(halt: Halt) -> DemuxFault
-    ensures stopped { halt ≡ Halt.Stopped → result ≡ DemuxFault.Stopped }
-    ensures starved { halt ≡ Halt.NoMemory → result ≡ DemuxFault.NoMemory }
-{
-    match halt {
-        Halt::Stopped => DemuxFault::Stopped,
-        Halt::NoMemory => DemuxFault::NoMemory,
-    }
-}
-
 fn behind(eof: bool, crc: Option<i64>, i: usize) -> Place
     ensures { result ≡ behind eof crc i }
 {
@@ -137,17 +123,16 @@ fn behind(eof: bool, crc: Option<i64>, i: usize) -> Place
 
 impl Progress {
     #[tactic(auto, unfolding(archive_format::specs::Archive::step_at))]
-    pub fn magic(&mut self, at: u64) -> Result<(), DemuxFault>
-        ensures steps { Quiet result (stage_of self.new) (step_at self.old.place (stage_of self.old) at magic) }
-        ensures fed { IfErr result (λ f. f ≡ DemuxFault.NoMemory → ⊥) }
+    pub fn magic(&mut self, at: u64) -> Result<(), FormatFault>
+        ensures { Passes result (stage_of self.new) (step_at self.old.place (stage_of self.old) at magic) }
     {
         match self.place {
             Place::Front => {
                 self.place = Place::Header;
                 Ok(())
             }
-            Place::Ending(_, _) => Err(DemuxFault::DocsInEnd { at }),
-            _ => Err(DemuxFault::BadBson {
+            Place::Ending(_, _) => Err(FormatFault::DocsInEnd { at }),
+            _ => Err(FormatFault::BadBson {
                 at,
                 kind: BsonKind::Length,
             }),
@@ -160,7 +145,7 @@ impl Progress {
     {
         match is_header(self.alloc, at, bytes) {
             Err(fault) => Err(fault),
-            Ok(false) => Err(DemuxFault::BadPrelude { at }),
+            Ok(false) => Err(DemuxFault::Format(FormatFault::BadPrelude { at })),
             Ok(true) => {
                 self.place = Place::Metas;
                 Ok(())
@@ -175,13 +160,13 @@ impl Progress {
     {
         match metadata(self.alloc, at, bytes) {
             Err(fault) => Err(fault),
-            Ok(None) => Err(DemuxFault::BadPrelude { at }),
+            Ok(None) => Err(DemuxFault::Format(FormatFault::BadPrelude { at })),
             Ok(Some(meta)) => {
                 if is_oplog(&meta.ns) {
                     return Ok(None);
                 }
                 if self.metas.contains(&meta.ns) {
-                    return Err(DemuxFault::BadPrelude { at });
+                    return Err(DemuxFault::Format(FormatFault::BadPrelude { at }));
                 }
                 self.metas.push(&meta.ns)?;
                 Ok(Some(meta))
@@ -195,11 +180,11 @@ impl Progress {
         ensures starved { IsErrOf result DemuxFault.NoMemory → IsNew (stage_of self.old) (head_in bytes.now) }
     {
         match head(at, bytes) {
-            Err(fault) => Err(fault),
-            Ok(None) => Err(DemuxFault::BadHeader { at }),
+            Err(fault) => Err(DemuxFault::Format(fault)),
+            Ok(None) => Err(DemuxFault::Format(FormatFault::BadHeader { at })),
             Ok(Some(head)) => match self.seen.seat_of(head.db, head.coll) {
                 None => self.new_seat(head.db, head.coll, head.eof, head.crc),
-                Some(i) => self.old_seat(at, i, behind(head.eof, head.crc, i)),
+                Some(i) => Ok(self.old_seat(at, i, behind(head.eof, head.crc, i))?),
             },
         }
     }
@@ -220,13 +205,12 @@ impl Progress {
         Ok(())
     }
 
-    fn old_seat(&mut self, at: u64, i: usize, next: Place) -> Result<(), DemuxFault>
-        ensures steps { Quiet result (stage_of self.new) (opened_entry (stage_of self.old) at next (slice_get self.old.seen i)) }
-        ensures fed { IfErr result (λ f. f ≡ DemuxFault.NoMemory → ⊥) }
+    fn old_seat(&mut self, at: u64, i: usize, next: Place) -> Result<(), FormatFault>
+        ensures { Passes result (stage_of self.new) (opened_entry (stage_of self.old) at next (slice_get self.old.seen i)) }
     {
         match self.seen.get(i) {
-            None => Err(DemuxFault::BadHeader { at }),
-            Some(entry) if entry.has_ended() => Err(DemuxFault::AfterEnd {
+            None => Err(FormatFault::BadHeader { at }),
+            Some(entry) if entry.has_ended() => Err(FormatFault::AfterEnd {
                 ns: self.seen.take_name(i),
                 at,
             }),
@@ -238,16 +222,15 @@ impl Progress {
     }
 
     #[tactic(auto, unfolding(archive_format::specs::Archive::doc_step))]
-    pub fn add_document(&mut self, at: u64, i: usize, bytes: &[u8]) -> Result<(), DemuxFault>
+    pub fn add_document(&mut self, at: u64, i: usize, bytes: &[u8]) -> Result<(), FormatFault>
         ensures names { Names result (stage_of self.new) (sound at (doc_step (stage_of self.old) at i bytes.now (slice_get self.old.seen i)) (fault_in bytes.now)) i (λ n. doc n bytes.now) }
         ensures document { OnOk result (fault_in bytes.now ≡ None) }
-        ensures fed { IfErr result (λ f. f ≡ DemuxFault.NoMemory → ⊥) }
     {
         match checked(at, bytes) {
             Err(fault) => Err(fault),
             Ok(()) => {
                 if self.seen.len() <= i {
-                    return Err(DemuxFault::BadHeader { at });
+                    return Err(FormatFault::BadHeader { at });
                 }
                 self.seen.add(i, bytes);
                 Ok(())
@@ -264,16 +247,15 @@ impl Progress {
     }
 
     #[tactic(auto, unfolding(archive_format::specs::Archive::end_step))]
-    pub fn mark_ended(&mut self, at: u64, i: usize, said: Option<u64>) -> Result<(), DemuxFault>
-        ensures names { Names result (stage_of self.new) (end_step (stage_of self.old) at i said (slice_get self.old.seen i)) i (λ n. end n) }
-        ensures fed { IfErr result (λ f. f ≡ DemuxFault.NoMemory → ⊥) }
+    pub fn mark_ended(&mut self, at: u64, i: usize, said: Option<u64>) -> Result<(), FormatFault>
+        ensures { Names result (stage_of self.new) (end_step (stage_of self.old) at i said (slice_get self.old.seen i)) i (λ n. end n) }
     {
         let Some(entry) = self.seen.get(i) else {
-            return Err(DemuxFault::BadHeader { at });
+            return Err(FormatFault::BadHeader { at });
         };
         let found = entry.sum();
         match said {
-            Some(said) if said != found => Err(DemuxFault::Crc {
+            Some(said) if said != found => Err(FormatFault::Crc {
                 ns: self.seen.take_name(i),
                 said,
                 found,

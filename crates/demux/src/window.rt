@@ -90,11 +90,11 @@ fn read_behind<S: Source>(buffer: &mut [u8], end: usize, source: &mut S) -> Resu
     requires { end < length buffer.old }
     ensures size { length buffer.new ≡ length buffer.old }
     ensures front { take end buffer.new ≡ take end buffer.old }
-    ensures ok { IfOk result (λ n. Fills (take end buffer.old) (take (end + n) buffer.new) n (S.left source.old) (S.left source.new)) }
+    ensures ok { IfOk result (λ n. Fills (take end buffer.old) (take (end + n) buffer.new) n (S.end source.old).bytes (S.end source.new).bytes) }
     ensures room { IfOk result (λ n. end + n ≤ length buffer.new) }
-    ensures err { IfErr result (λ e. (e ≡ Fault.Failed) × Rose (S.faults source.old) (S.faults source.new)) }
-    ensures kept { OnErr result (Keeps (S.left source.old) (S.left source.new)) }
-    ensures later { S.faults source.old ≤ S.faults source.new }
+    ensures err { IfErr result (λ e. (e ≡ Fault.Failed) × Rose (S.end source.old).faults (S.end source.new).faults) }
+    ensures kept { OnErr result (Keeps (S.end source.old).bytes (S.end source.new).bytes) }
+    ensures later { (S.end source.old).faults ≤ (S.end source.new).faults }
 {
     let most = PIECE.min(buffer.len() - end);
     source.read(&mut buffer[end..end + most])
@@ -133,10 +133,10 @@ impl Window {
         requires { length self.old.bytes < self.old.size }
         ensures size { self.new.size ≡ self.old.size }
         ensures room { length self.new.bytes ≤ self.new.size }
-        ensures ok { IfOk result (λ n. Fills self.old.bytes self.new.bytes n (S.left source.old) (S.left source.new)) }
-        ensures err { IfErr result (λ e. (e ≡ Fault.Failed) × Rose (S.faults source.old) (S.faults source.new)) }
-        ensures kept { OnErr result ((self.new.bytes ≡ self.old.bytes) × Keeps (S.left source.old) (S.left source.new)) }
-        ensures later { S.faults source.old ≤ S.faults source.new }
+        ensures ok { IfOk result (λ n. Fills self.old.bytes self.new.bytes n (S.end source.old).bytes (S.end source.new).bytes) }
+        ensures err { IfErr result (λ e. (e ≡ Fault.Failed) × Rose (S.end source.old).faults (S.end source.new).faults) }
+        ensures kept { OnErr result ((self.new.bytes ≡ self.old.bytes) × Keeps (S.end source.old).bytes (S.end source.new).bytes) }
+        ensures later { (S.end source.old).faults ≤ (S.end source.new).faults }
     {
         let start = self.start;
         let end = self.end;

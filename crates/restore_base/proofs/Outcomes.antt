@@ -6,44 +6,44 @@ use Rattle.std.specs.Cmp.{unsigned_Decides}
 use Rattle.metadata_text.specs.Metadata.{metadata_of}
 use Rattle.std.proofs.lemmas.Slice.Eq.{bytes_eq-Decides}
 use Rattle.bson_value.specs.declared.namespace.NsName.{NsName}
-use Rattle.archive_format.specs.declared.fault.DemuxFault.{DemuxFault}
+use Rattle.archive_format.specs.declared.fault.FormatFault.{FormatFault}
 use Rattle.archive_format.specs.Shapes.{is_oplog}
 use Rattle.archive_format.specs.Archive.{Taking, meta, doc, end, start, limit, EndsOf, Content, same_ns}
 use Rattle.archive_format.proofs.Fold.{clean_none, ends_total, ends_unique, content_ends, ends_content}
-use Rattle.archive_format.specs.declared.fault.DemuxFault.TheVariants as faults
+use Rattle.demux.specs.declared.fault.DemuxFault.TheVariants as faults
 use Rattle.tool_io.specs.Causes.{Rose}
-use Rattle.demux.specs.Told.{Reach, Whole, Wrong, Stop as Stopped, Tells_fault, Fault_told, End_told}
+use Rattle.demux.specs.Told.{Reach, Whole, Wrong, Stop as Stopped, Fault_told, End_told}
 use Rattle.restore_base.specs.declared.collections.Kept.{Kept}
 use Rattle.restore_base.specs.Kept.{taking_of, takings_in}
 use Rattle.restore_base.specs.Taken.{count_of}
 use Rattle.restore_base.specs.declared.collections.Stop.{Stop}
 use Rattle.restore_base.specs.declared.collections.Stop.TheVariants.{NoId, Metadata, Indexed}
 use Rattle.restore_base.specs.Base.{is_of_collection, base, restored, metadata_stop, stop_at, or_later, first_stop, same_stop}
-use Rattle.restore_base.specs.Outcome.{Outcome, restores, refuses, stops, IsOutcome, IsReadTo, IsRefused, IsUnsettled, OnInput, is_format}
+use Rattle.restore_base.specs.Outcome.{Outcome, restores, refuses, stops, IsOutcome, IsReadTo, IsRefused, IsUnsettled, OnInput}
 
 -- ---- one outcome
 
-abbrev Same_end : List Taking → List Taking → Option DemuxFault → Option DemuxFault → Type 0
+abbrev Same_end : List Taking → List Taking → Option FormatFault → Option FormatFault → Type 0
 Same_end ts us e f = (ts ≡ us) × (e ≡ f)
 
-once : (bytes : List ℕ) (ts us : List Taking) (e f : Option DemuxFault) → EndsOf bytes ts e → EndsOf bytes us f → Same_end ts us e f
+once : (bytes : List ℕ) (ts us : List Taking) (e f : Option FormatFault) → EndsOf bytes ts e → EndsOf bytes us f → Same_end ts us e f
 once bytes ts us e f p q = ends_unique start 0 (take limit bytes) (nat_lt limit (length bytes)) ts us e f p q
 
-never_both : (bytes : List ℕ) (ts us : List Taking) (e f : Option DemuxFault) (s : Stop) → EndsOf bytes ts e → EndsOf bytes us f → first_stop ts ≡ None → first_stop us ≡ Some s → ⊥
+never_both : (bytes : List ℕ) (ts us : List Taking) (e f : Option FormatFault) (s : Stop) → EndsOf bytes ts e → EndsOf bytes us f → first_stop ts ≡ None → first_stop us ≡ Some s → ⊥
 never_both bytes ts us e f s p q a b =
     let k = ap first_stop (once bytes ts us e f p q).0 in
     let x : None ≡ Some s = sym a ∙ (k ∙ b) in cc
 
-never_fault : (bytes : List ℕ) (ts us : List Taking) (f : DemuxFault) → EndsOf bytes ts None → EndsOf bytes us (Some f) → ⊥
+never_fault : (bytes : List ℕ) (ts us : List Taking) (f : FormatFault) → EndsOf bytes ts None → EndsOf bytes us (Some f) → ⊥
 never_fault bytes ts us f p q = let k = (once bytes ts us None (Some f) p q).1 in cc
 
 same_state : (bytes : List ℕ) (ts us : List Taking) → Content bytes ts → Content bytes us → restored ts ≡ restored us
 same_state bytes ts us p q = ap restored (once bytes ts us None None (content_ends bytes ts p) (content_ends bytes us q)).0
 
-same_fault : (bytes : List ℕ) (ts us : List Taking) (f h : DemuxFault) → EndsOf bytes ts (Some f) → EndsOf bytes us (Some h) → f ≡ h
+same_fault : (bytes : List ℕ) (ts us : List Taking) (f h : FormatFault) → EndsOf bytes ts (Some f) → EndsOf bytes us (Some h) → f ≡ h
 same_fault bytes ts us f h p q = let k = (once bytes ts us (Some f) (Some h) p q).1 in cc
 
-same_reason : (bytes : List ℕ) (ts us : List Taking) (e f : Option DemuxFault) (s t : Stop) → EndsOf bytes ts e → EndsOf bytes us f → first_stop ts ≡ Some s → first_stop us ≡ Some t → s ≡ t
+same_reason : (bytes : List ℕ) (ts us : List Taking) (e f : Option FormatFault) (s t : Stop) → EndsOf bytes ts e → EndsOf bytes us f → first_stop ts ≡ Some s → first_stop us ≡ Some t → s ≡ t
 same_reason bytes ts us e f s t p q a b =
     let k = ap first_stop (once bytes ts us e f p q).0 in
     let x : Some s ≡ Some t = sym a ∙ (k ∙ b) in cc
@@ -62,7 +62,7 @@ outcome_once bytes (stops s) (stops t) a b = ap stops (same_reason bytes a.0 b.0
 abbrev Some_outcome : List ℕ → Type 0
 Some_outcome bytes = (o : Outcome) × IsOutcome bytes o
 
-by_end : (bytes : List ℕ) (ts : List Taking) (e : Option DemuxFault) (x : Option Stop) → first_stop ts ≡ x → EndsOf bytes ts e → Some_outcome bytes
+by_end : (bytes : List ℕ) (ts : List Taking) (e : Option FormatFault) (x : Option Stop) → first_stop ts ≡ x → EndsOf bytes ts e → Some_outcome bytes
 by_end bytes ts e (Some s) is p = (stops s, (ts, e, p, is))
 by_end bytes ts (Some f) None is p = (refuses f, (ts, p, is))
 by_end bytes ts None None is p = (restores (restored ts), (ts, ends_content bytes ts p, is, refl))
@@ -150,7 +150,7 @@ module _ (c0 c : List Taking) (begins : c0 ≡ []) (fine : first_stop c ≡ None
   abbrev read_to : (all : List ℕ) (now : Option (List ℕ)) (given : List Taking) → c ≡ c0 ++ filter is_of_collection given → Reach all now given → IsReadTo all now
   read_to all now given took reach = record { given = given; fine = taken given took; reach = reach }
 
-  pub refuses_all : (all : List ℕ) (now : Option (List ℕ)) (f : DemuxFault) → Wrong all now f is_of_collection (Some c0) (Some c) → IsRefused all now (refuses f)
+  pub refuses_all : (all : List ℕ) (now : Option (List ℕ)) (f : FormatFault) → Wrong all now f is_of_collection (Some c0) (Some c) → IsRefused all now (refuses f)
   refuses_all all now f w = (read_to all now w.whole.given w.whole.took w.reach, w.whole.ends)
 
   pub stops_all : (all : List ℕ) (now : Option (List ℕ)) (s : Stop) (o : Option Stop) → o ≡ Some s → Stopped all now is_of_collection (Some c0) (Some c) (λ t. same_stop o (stop_at t)) → IsRefused all now (stops s)
@@ -158,24 +158,9 @@ module _ (c0 c : List Taking) (begins : c0 ≡ []) (fine : first_stop c ≡ None
       let told : same_stop (Some s) (stop_at w.refused) ≡ true = subst (λ x. same_stop x (stop_at w.refused) ≡ true) is w.told in
       (read_to all now w.given w.took w.reach, (w.refused, w.more, w.fault, w.ends, one_reason s (stop_at w.refused) told))
 
-  pub told_format : (first now : Option (List ℕ)) (f : DemuxFault) (why : Taking → Bool) (rose : Type 0) → is_format f ≡ true → Fault_told f first now is_of_collection (Some c0) (Some c) why rose → OnInput first (λ all. IsRefused all now (refuses f))
-  told_format None now f why rose is w = tt
-  told_format (Some all) now f why rose is w = refuses_all all now f (wrong_told all now f why rose is w)
-    where
-      wrong_told : (all : List ℕ) (now : Option (List ℕ)) (f : DemuxFault) (why : Taking → Bool) (rose : Type 0) → is_format f ≡ true → Tells_fault f all now is_of_collection (Some c0) (Some c) why rose → Wrong all now f is_of_collection (Some c0) (Some c)
-      wrong_told all now faults.ReadFault why rose is w = cc
-      wrong_told all now faults.Stopped why rose is w = cc
-      wrong_told all now faults.NoMemory why rose is w = cc
-      wrong_told all now faults.BadMagic why rose is w = w
-      wrong_told all now (faults.Truncated a) why rose is w = w
-      wrong_told all now (faults.BadBson a k) why rose is w = w
-      wrong_told all now (faults.BadPrelude a) why rose is w = w
-      wrong_told all now (faults.BadHeader a) why rose is w = w
-      wrong_told all now (faults.AfterEnd n a) why rose is w = w
-      wrong_told all now (faults.DocsInEnd a) why rose is w = w
-      wrong_told all now (faults.Crc n a b) why rose is w = w
-      wrong_told all now (faults.NotEnded n) why rose is w = w
-      wrong_told all now faults.TooLong why rose is w = w
+  pub told_format : (first now : Option (List ℕ)) (f : FormatFault) (why : Taking → Bool) (rose : Type 0) → Fault_told (faults.Format f) first now is_of_collection (Some c0) (Some c) why rose → OnInput first (λ all. IsRefused all now (refuses f))
+  told_format None now f why rose w = tt
+  told_format (Some all) now f why rose w = refuses_all all now f w
 
   pub told_restored : (first now : Option (List ℕ)) → End_told first now is_of_collection (Some c0) (Some c) → OnInput first (λ all. (now ≡ Some []) × IsOutcome all (restores (base c)))
   told_restored None now w = tt

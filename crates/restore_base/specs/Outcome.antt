@@ -1,7 +1,6 @@
 -- What a restore makes of an input: the state of its takings, or why there is none.
-use Rattle.std.specs.Prelude.{⊤, ◌≡◌, ℕ, Bool, true, false, List, ◌∷◌, ◌++◌, Option, Some, None}
-use Rattle.archive_format.specs.declared.fault.DemuxFault.{DemuxFault}
-use Rattle.archive_format.specs.declared.fault.DemuxFault.TheVariants as faults
+use Rattle.std.specs.Prelude.{⊤, ◌≡◌, ℕ, List, ◌∷◌, ◌++◌, Option, Some, None}
+use Rattle.archive_format.specs.declared.fault.FormatFault.{FormatFault}
 use Rattle.archive_format.specs.Archive.{Taking, Content, EndsOf, next, short}
 use Rattle.demux.specs.Told.{Reach}
 use Rattle.state_listing.specs.Listing.{State}
@@ -10,21 +9,14 @@ use Rattle.restore_base.specs.Base.{restored, first_stop, stop_at}
 
 pub data Outcome : Type 0 where
   restores : State → Outcome
-  refuses : DemuxFault → Outcome
+  refuses : FormatFault → Outcome
   stops : Stop → Outcome
 
 -- an archive none of whose takings is refused, a fault of the format behind a clean front of such takings, or the first taking that is refused
 abbrev pub IsOutcome : List ℕ → Outcome → Type 0
 IsOutcome bytes (restores s) = (ts : List Taking) × Content bytes ts × (first_stop ts ≡ None) × (s ≡ restored ts)
 IsOutcome bytes (refuses f) = (ts : List Taking) × EndsOf bytes ts (Some f) × (first_stop ts ≡ None)
-IsOutcome bytes (stops s) = (ts : List Taking) × (e : Option DemuxFault) × EndsOf bytes ts e × (first_stop ts ≡ Some s)
-
--- a fault of the bytes, and not of an end or of memory
-abbrev pub is_format : DemuxFault → Bool
-is_format faults.ReadFault = false
-is_format faults.Stopped = false
-is_format faults.NoMemory = false
-is_format _ = true
+IsOutcome bytes (stops s) = (ts : List Taking) × (e : Option FormatFault) × EndsOf bytes ts e × (first_stop ts ≡ Some s)
 
 -- a fact about an input that is known
 abbrev pub OnInput : Option (List ℕ) → (List ℕ → Type 0) → Type 0
@@ -41,7 +33,7 @@ pub record IsReadTo (bytes : List ℕ) (now : Option (List ℕ)) : Type 0 where
 abbrev pub IsRefusedAt : (bytes : List ℕ) (now : Option (List ℕ)) → IsReadTo bytes now → Outcome → Type 0
 IsRefusedAt bytes now r (restores s) = ⊥
 IsRefusedAt bytes now r (refuses f) = EndsOf bytes r.given (Some f)
-IsRefusedAt bytes now r (stops s) = (t : Taking) × (more : List Taking) × (e : Option DemuxFault) × EndsOf bytes (r.given ++ (t ∷ more)) e × (stop_at t ≡ Some s)
+IsRefusedAt bytes now r (stops s) = (t : Taking) × (more : List Taking) × (e : Option FormatFault) × EndsOf bytes (r.given ++ (t ∷ more)) e × (stop_at t ≡ Some s)
 
 -- the input is refused, and this much of it was read
 abbrev pub IsRefused : List ℕ → Option (List ℕ) → Outcome → Type 0

@@ -21,10 +21,10 @@ fn list_document<K: Sink>(
     form: ListForm,
     sink: &mut K,
 ) -> Result<(), Fault>
-    ensures ok { OnOk result (Appends (K.written sink.old) (K.written sink.new) (document_line form (document_taken bytes.now))) }
-    ensures err { OnErr result (AppendsFront (K.written sink.old) (K.written sink.new) (document_line form (document_taken bytes.now))) }
-    ensures later { K.faults sink.old ≤ K.faults sink.new }
-    ensures cause { IsErrOf result Fault.Failed → Rose (K.faults sink.old) (K.faults sink.new) }
+    ensures ok { OnOk result (Appends (K.end sink.old).bytes (K.end sink.new).bytes (document_line form (document_taken bytes.now))) }
+    ensures err { OnErr result (AppendsFront (K.end sink.old).bytes (K.end sink.new).bytes (document_line form (document_taken bytes.now))) }
+    ensures later { (K.end sink.old).faults ≤ (K.end sink.new).faults }
+    ensures cause { IsErrOf result Fault.Failed → Rose (K.end sink.old).faults (K.end sink.new).faults }
 {
     match document(alloc, bytes) {
         Ok(doc) => write_document(alloc, &doc, form, sink),
@@ -38,10 +38,10 @@ fn list_documents<K: Sink>(
     form: ListForm,
     sink: &mut K,
 ) -> Result<(), Fault>
-    ensures ok { OnOk result (Appends (K.written sink.old) (K.written sink.new) (flat_map (λ e. document_line form e.1) (documents_in documents.now))) }
-    ensures err { OnErr result (AppendsFront (K.written sink.old) (K.written sink.new) (flat_map (λ e. document_line form e.1) (documents_in documents.now))) }
-    ensures later { K.faults sink.old ≤ K.faults sink.new }
-    ensures cause { IsErrOf result Fault.Failed → Rose (K.faults sink.old) (K.faults sink.new) }
+    ensures ok { OnOk result (Appends (K.end sink.old).bytes (K.end sink.new).bytes (flat_map (λ e. document_line form e.1) (documents_in documents.now))) }
+    ensures err { OnErr result (AppendsFront (K.end sink.old).bytes (K.end sink.new).bytes (flat_map (λ e. document_line form e.1) (documents_in documents.now))) }
+    ensures later { (K.end sink.old).faults ≤ (K.end sink.new).faults }
+    ensures cause { IsErrOf result Fault.Failed → Rose (K.end sink.old).faults (K.end sink.new).faults }
 {
     'documents: for (_, bytes) in documents {
         match list_document(alloc, bytes, form, sink) {
@@ -59,10 +59,10 @@ fn list_collection<K: Sink>(
     form: ListForm,
     sink: &mut K,
 ) -> Result<(), Fault>
-    ensures ok { OnOk result (Appends (K.written sink.old) (K.written sink.new) (collection_text form (collection (named name.now, contents_in held.now)))) }
-    ensures err { OnErr result (AppendsFront (K.written sink.old) (K.written sink.new) (collection_text form (collection (named name.now, contents_in held.now)))) }
-    ensures later { K.faults sink.old ≤ K.faults sink.new }
-    ensures cause { IsErrOf result Fault.Failed → Rose (K.faults sink.old) (K.faults sink.new) }
+    ensures ok { OnOk result (Appends (K.end sink.old).bytes (K.end sink.new).bytes (collection_text form (collection (named name.now, contents_in held.now)))) }
+    ensures err { OnErr result (AppendsFront (K.end sink.old).bytes (K.end sink.new).bytes (collection_text form (collection (named name.now, contents_in held.now)))) }
+    ensures later { (K.end sink.old).faults ≤ (K.end sink.new).faults }
+    ensures cause { IsErrOf result Fault.Failed → Rose (K.end sink.old).faults (K.end sink.new).faults }
 {
     let (db, coll) = *name;
     match write_head(alloc, db, coll, held.documents.len(), &held.options, sink) {
@@ -77,10 +77,10 @@ fn list_collections<K: Sink>(
     form: ListForm,
     sink: &mut K,
 ) -> Result<(), Fault>
-    ensures ok { OnOk result (Appends (K.written sink.old) (K.written sink.new) (listing form (map collection (gathered_in gathered.now)))) }
-    ensures err { OnErr result (AppendsFront (K.written sink.old) (K.written sink.new) (listing form (map collection (gathered_in gathered.now)))) }
-    ensures later { K.faults sink.old ≤ K.faults sink.new }
-    ensures cause { IsErrOf result Fault.Failed → Rose (K.faults sink.old) (K.faults sink.new) }
+    ensures ok { OnOk result (Appends (K.end sink.old).bytes (K.end sink.new).bytes (listing form (map collection (gathered_in gathered.now)))) }
+    ensures err { OnErr result (AppendsFront (K.end sink.old).bytes (K.end sink.new).bytes (listing form (map collection (gathered_in gathered.now)))) }
+    ensures later { (K.end sink.old).faults ≤ (K.end sink.new).faults }
+    ensures cause { IsErrOf result Fault.Failed → Rose (K.end sink.old).faults (K.end sink.new).faults }
 {
     'collections: for (name, held) in gathered {
         match list_collection(alloc, name, held, form, sink) {
@@ -94,10 +94,10 @@ fn list_collections<K: Sink>(
 impl Collections {
     /// Writes the listing of the collections, a piece for each line or two.
     pub fn list<K: Sink>(&self, alloc: Global, form: ListForm, sink: &mut K) -> Result<(), Fault>
-        ensures ok { OnOk result (Appends (K.written sink.old) (K.written sink.new) (listing form (base (takings_of self.now)))) }
-        ensures err { OnErr result (AppendsFront (K.written sink.old) (K.written sink.new) (listing form (base (takings_of self.now)))) }
-        ensures later { K.faults sink.old ≤ K.faults sink.new }
-        ensures cause { IsErrOf result Fault.Failed → Rose (K.faults sink.old) (K.faults sink.new) }
+        ensures ok { OnOk result (Appends (K.end sink.old).bytes (K.end sink.new).bytes (listing form (base (takings_of self.now)))) }
+        ensures err { OnErr result (AppendsFront (K.end sink.old).bytes (K.end sink.new).bytes (listing form (base (takings_of self.now)))) }
+        ensures later { (K.end sink.old).faults ≤ (K.end sink.new).faults }
+        ensures cause { IsErrOf result Fault.Failed → Rose (K.end sink.old).faults (K.end sink.new).faults }
     {
         match gather(alloc, self.takings()) {
             Ok(gathered) => list_collections(alloc, &gathered, form, sink),

@@ -1,13 +1,13 @@
 //! An archive is taken from a source.
-ghost use Rattle.std.specs.Prelude.{◌≡◌, ◌≤◌, Some, [], IfOk, IsSome, IsErrOf, IsTrue};
+ghost use Rattle.std.specs.Prelude.{◌≡◌, ◌≤◌, Some, [], IfOk, IsSome, IsErrOf};
 ghost use Rattle.tool_io.specs.Causes.{Rose};
 ghost use Rattle.restore_base.specs.Base.{base};
 ghost use Rattle.restore_base.specs.Taken.{takings_of};
-ghost use Rattle.restore_base.specs.Outcome.{IsOutcome, IsReadTo, IsRefused, IsUnsettled, OnInput, OneOutcome, RefusedIsOutcome, is_format, restores, refuses, stops};
+ghost use Rattle.restore_base.specs.Outcome.{IsOutcome, IsReadTo, IsRefused, IsUnsettled, OnInput, OneOutcome, RefusedIsOutcome, restores, refuses, stops};
 
 use crate::collections::{Collections, Stop};
-use archive_format::DemuxFault;
-use demux::Demux;
+use archive_format::FormatFault;
+use demux::{Demux, DemuxFault};
 use std::alloc::Global;
 use tool_io::Source;
 
@@ -15,7 +15,7 @@ use tool_io::Source;
 #[derive(Debug, Drop)]
 pub enum RestoreFault {
     /// It is no archive.
-    Format(DemuxFault),
+    Format(FormatFault),
     /// A taking is refused.
     Stopped(Stop),
     ReadFault,
@@ -25,31 +25,31 @@ pub enum RestoreFault {
 // Why a run failed.
 fn fault_of(fault: DemuxFault, collections: Collections) -> RestoreFault
     requires { fault ≡ DemuxFault.Stopped → IsSome collections.stop }
-    ensures format { (f : DemuxFault) → result ≡ RestoreFault.Format f → (fault ≡ f) × IsTrue (is_format f) }
+    ensures format { (f : FormatFault) → result ≡ RestoreFault.Format f → fault ≡ DemuxFault.Format f }
     ensures stopped { (s : Stop) → result ≡ RestoreFault.Stopped s → (fault ≡ DemuxFault.Stopped) × (collections.stop ≡ Some s) }
     ensures read_fault { result ≡ RestoreFault.ReadFault → fault ≡ DemuxFault.ReadFault }
     ensures no_memory { result ≡ RestoreFault.NoMemory → fault ≡ DemuxFault.NoMemory }
 {
     match fault {
+        DemuxFault::Format(fault) => RestoreFault::Format(fault),
         DemuxFault::ReadFault => RestoreFault::ReadFault,
         DemuxFault::NoMemory => RestoreFault::NoMemory,
         DemuxFault::Stopped => match collections.into_stop() {
             Some(stop) => RestoreFault::Stopped(stop),
             None => unreachable!(),
         },
-        fault => RestoreFault::Format(fault),
     }
 }
 
 /// The collections of the archive that the source has left. What is kept of it takes memory, and a window of 16,793,600 bytes.
 pub fn restore<S: Source>(alloc: Global, source: &mut S) -> Result<Collections, RestoreFault>
-    ensures restored { IfOk result (λ c. OnInput (S.left source.old) (λ all. (S.left source.new ≡ Some []) × IsOutcome all (restores (base (takings_of c))))) }
-    ensures format { (f : DemuxFault) → IsErrOf result (RestoreFault.Format f) → OnInput (S.left source.old) (λ all. IsRefused all (S.left source.new) (refuses f)) }
-    ensures stopped { (s : Stop) → IsErrOf result (RestoreFault.Stopped s) → OnInput (S.left source.old) (λ all. IsRefused all (S.left source.new) (stops s)) }
-    ensures read_fault { IsErrOf result RestoreFault.ReadFault → Rose (S.faults source.old) (S.faults source.new) }
-    ensures unsettled { IsErrOf result RestoreFault.ReadFault → OnInput (S.left source.old) (λ all. IsUnsettled all (S.left source.new)) }
-    ensures no_memory { IsErrOf result RestoreFault.NoMemory → OnInput (S.left source.old) (λ all. IsReadTo all (S.left source.new)) }
-    ensures later { S.faults source.old ≤ S.faults source.new }
+    ensures restored { IfOk result (λ c. OnInput (S.end source.old).bytes (λ all. ((S.end source.new).bytes ≡ Some []) × IsOutcome all (restores (base (takings_of c))))) }
+    ensures format { (f : FormatFault) → IsErrOf result (RestoreFault.Format f) → OnInput (S.end source.old).bytes (λ all. IsRefused all (S.end source.new).bytes (refuses f)) }
+    ensures stopped { (s : Stop) → IsErrOf result (RestoreFault.Stopped s) → OnInput (S.end source.old).bytes (λ all. IsRefused all (S.end source.new).bytes (stops s)) }
+    ensures read_fault { IsErrOf result RestoreFault.ReadFault → Rose (S.end source.old).faults (S.end source.new).faults }
+    ensures unsettled { IsErrOf result RestoreFault.ReadFault → OnInput (S.end source.old).bytes (λ all. IsUnsettled all (S.end source.new).bytes) }
+    ensures no_memory { IsErrOf result RestoreFault.NoMemory → OnInput (S.end source.old).bytes (λ all. IsReadTo all (S.end source.new).bytes) }
+    ensures later { (S.end source.old).faults ≤ (S.end source.new).faults }
 {
     let Ok(demux) = Demux::new(alloc) else {
         return Err(RestoreFault::NoMemory);

@@ -59,10 +59,10 @@ pub fn write_head<K: Sink>(
     options: &Tree,
     sink: &mut K,
 ) -> Result<(), Fault>
-    ensures ok { OnOk result (Appends (K.written sink.old) (K.written sink.new) (head_text db.now coll.now count options.now)) }
-    ensures err { OnErr result (AppendsFront (K.written sink.old) (K.written sink.new) (head_text db.now coll.now count options.now)) }
-    ensures later { K.faults sink.old ≤ K.faults sink.new }
-    ensures cause { IsErrOf result Fault.Failed → Rose (K.faults sink.old) (K.faults sink.new) }
+    ensures ok { OnOk result (Appends (K.end sink.old).bytes (K.end sink.new).bytes (head_text db.now coll.now count options.now)) }
+    ensures err { OnErr result (AppendsFront (K.end sink.old).bytes (K.end sink.new).bytes (head_text db.now coll.now count options.now)) }
+    ensures later { (K.end sink.old).faults ≤ (K.end sink.new).faults }
+    ensures cause { IsErrOf result Fault.Failed → Rose (K.end sink.old).faults (K.end sink.new).faults }
 {
     match head(alloc, db, coll, count, options) {
         Ok(text) => sink.write(text.as_bytes()),
@@ -108,10 +108,10 @@ pub fn write_document<K: Sink>(
     form: ListForm,
     sink: &mut K,
 ) -> Result<(), Fault>
-    ensures ok { OnOk result (Appends (K.written sink.old) (K.written sink.new) (document_line form doc.now)) }
-    ensures err { OnErr result (AppendsFront (K.written sink.old) (K.written sink.new) (document_line form doc.now)) }
-    ensures later { K.faults sink.old ≤ K.faults sink.new }
-    ensures cause { IsErrOf result Fault.Failed → Rose (K.faults sink.old) (K.faults sink.new) }
+    ensures ok { OnOk result (Appends (K.end sink.old).bytes (K.end sink.new).bytes (document_line form doc.now)) }
+    ensures err { OnErr result (AppendsFront (K.end sink.old).bytes (K.end sink.new).bytes (document_line form doc.now)) }
+    ensures later { (K.end sink.old).faults ≤ (K.end sink.new).faults }
+    ensures cause { IsErrOf result Fault.Failed → Rose (K.end sink.old).faults (K.end sink.new).faults }
 {
     match document(alloc, doc, form) {
         Ok(text) => sink.write(text.as_bytes()),

@@ -1,7 +1,8 @@
-ghost use Rattle.std.specs.Prelude.{◌≡◌, ℕ, ◌<◌, ◌≤◌, List, Option, length, OnOk, OnErr, IsErrOf, IfErr};
+ghost use Rattle.std.specs.Prelude.{◌≡◌, ◌<◌, ◌≤◌, length, OnOk, OnErr, IsErrOf, IfErr};
 ghost use Rattle.std.specs.Io.{ReadsAtMost};
 ghost use Rattle.std.specs.Io.KnownBytes.{ReadConsumes, Appends};
 ghost use Rattle.tool_io.specs.Causes.{Rose, AppendsFront};
+ghost use Rattle.tool_io.specs.Ends.{End};
 
 use std::alloc::AllocError;
 
@@ -26,32 +27,30 @@ impl From<AllocError> for Fault {
 
 /// Something to read bytes from.
 pub trait Source {
-    /// The bytes not yet read, where they are known.
-    ghost left: { Self → Option (List ℕ) };
-    /// How often a read failed. It never falls, and stands still at the last number of 64 bits.
-    ghost faults: { Self → ℕ };
+    /// The bytes not yet read, where they are known, and how often a read failed. The count never falls, and stands still at
+    /// the last number of 64 bits.
+    ghost end: { Self → End };
 
     /// Takes the next bytes into the front of the buffer and tells how many: at the end of the input, and only there, none.
     /// Where it fails it takes nothing.
     fn read(&mut self, buf: &mut [u8]) -> Result<usize, Fault>
         requires { 0 < length buf.old }
         ensures bound { ReadsAtMost result buf.new }
-        ensures bytes { ReadConsumes (left self.old) (left self.new) result buf.new }
-        ensures later { faults self.old ≤ faults self.new }
-        ensures cause { IfErr result (λ e. (e ≡ Fault.Failed) × Rose (faults self.old) (faults self.new)) };
+        ensures bytes { ReadConsumes (end self.old).bytes (end self.new).bytes result buf.new }
+        ensures later { (end self.old).faults ≤ (end self.new).faults }
+        ensures cause { IfErr result (λ e. (e ≡ Fault.Failed) × Rose (end self.old).faults (end self.new).faults) };
 }
 
 /// Something to write bytes to.
 pub trait Sink {
-    /// The bytes written so far, where they are known.
-    ghost written: { Self → Option (List ℕ) };
-    /// How often a write failed. It never falls, and stands still at the last number of 64 bits.
-    ghost faults: { Self → ℕ };
+    /// The bytes written so far, where they are known, and how often a write failed. The count never falls, and stands still at
+    /// the last number of 64 bits.
+    ghost end: { Self → End };
 
     /// Writes the whole piece. Where it fails, some front of the piece was written.
     fn write(&mut self, piece: &[u8]) -> Result<(), Fault>
-        ensures ok { OnOk result (Appends (written self.old) (written self.new) piece.now) }
-        ensures err { OnErr result (AppendsFront (written self.old) (written self.new) piece.now) }
-        ensures later { faults self.old ≤ faults self.new }
-        ensures cause { IsErrOf result Fault.Failed → Rose (faults self.old) (faults self.new) };
+        ensures ok { OnOk result (Appends (end self.old).bytes (end self.new).bytes piece.now) }
+        ensures err { OnErr result (AppendsFront (end self.old).bytes (end self.new).bytes piece.now) }
+        ensures later { (end self.old).faults ≤ (end self.new).faults }
+        ensures cause { IsErrOf result Fault.Failed → Rose (end self.old).faults (end self.new).faults };
 }

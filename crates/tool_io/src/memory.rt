@@ -119,9 +119,7 @@ impl MemSource {
 impl Source for MemSource {
     ghost use Rattle.std.specs.Prelude.{Some};
 
-    ghost left = { λ s. Some s.left };
-
-    ghost faults = { λ s. s.faults };
+    ghost end = { λ s. record { bytes = Some s.left; faults = s.faults } };
 
     fn read(&mut self, buf: &mut [u8]) -> Result<usize, Fault> {
         self.give(buf)
@@ -179,9 +177,7 @@ impl MemSink {
 impl Sink for MemSink {
     ghost use Rattle.std.specs.Prelude.{Some};
 
-    ghost written = { λ s. Some s.written };
-
-    ghost faults = { λ s. s.faults };
+    ghost end = { λ s. record { bytes = Some s.written; faults = s.faults } };
 
     fn write(&mut self, piece: &[u8]) -> Result<(), Fault> {
         self.keep(piece)

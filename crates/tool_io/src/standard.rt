@@ -29,9 +29,7 @@ impl<R> StdSource<R> {
 }
 
 impl<R: Read> Source for StdSource<R> {
-    ghost left = { λ s. R.remaining s.inner };
-
-    ghost faults = { λ s. s.faults };
+    ghost end = { λ s. record { bytes = R.remaining s.inner; faults = s.faults } };
 
     fn read(&mut self, buf: &mut [u8]) -> Result<usize, Fault> {
         match self.inner.read(buf) {
@@ -69,9 +67,7 @@ impl<W> StdSink<W> {
 }
 
 impl<W: Write> Sink for StdSink<W> {
-    ghost written = { λ s. W.contents s.inner };
-
-    ghost faults = { λ s. s.faults };
+    ghost end = { λ s. record { bytes = W.contents s.inner; faults = s.faults } };
 
     fn write(&mut self, piece: &[u8]) -> Result<(), Fault> {
         let mut rest = piece;

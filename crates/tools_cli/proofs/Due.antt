@@ -13,7 +13,8 @@ use Rattle.tools_cli.specs.declared.status.Status.{Status}
 use Rattle.tools_cli.specs.declared.status.Status.TheVariants as is
 use Rattle.tools_cli.specs.declared.texts.TheConstants.{HELP, VERSION}
 use Rattle.tools_cli.specs.Words.{Meaning}
-use Rattle.tools_cli.specs.Ends.{End, Turn, Untouched}
+use Rattle.tool_io.specs.Ends.{End}
+use Rattle.tools_cli.specs.Ends.{Turn, Untouched}
 use Rattle.tools_cli.specs.Statuses.{Gives}
 use Rattle.tools_cli.specs.RestoreAnswers.{outcome_of, outcome_code, RestoreSays, RestoreAnswers}
 use Rattle.tools_cli.specs.ShowAnswers.{ShowAnswers}

@@ -4,7 +4,8 @@ use Rattle.std.specs.Prelude.{Option, Some, None, []}
 use Rattle.state_listing.specs.Listing.{State}
 use Rattle.restore_base.specs.Outcome.{Outcome, IsOutcome, IsReadTo, IsRefused, OnInput, restores}
 use Rattle.restore_base.proofs.Outcomes.{unread, refused_once}
-use Rattle.tools_cli.specs.Ends.{Turn, End}
+use Rattle.tool_io.specs.Ends.{End}
+use Rattle.tools_cli.specs.Ends.{Turn}
 use Rattle.tools_cli.specs.RestoreAnswers.{ReadsSome, Refused, HasOutcome}
 
 pub all_read : (o now : Option (List ℕ)) (s : State) → OnInput o (λ all. (now ≡ Some []) × IsOutcome all (restores s)) → OnInput o (λ all. (now ≡ Some []) ⊎ IsReadTo all now)

@@ -8,7 +8,8 @@ use Rattle.tools_cli.specs.declared.texts.TheConstants.{HELP, VERSION}
 use Rattle.tools_cli.specs.Words.{Meaning}
 use Rattle.tools_cli.specs.Statuses.{code_of}
 use Rattle.tools_cli.specs.Lines.{line_of, no_memory_line}
-use Rattle.tools_cli.specs.Ends.{End, Turn, Same, WritesFront, Tells}
+use Rattle.tool_io.specs.Ends.{End}
+use Rattle.tools_cli.specs.Ends.{Turn, Same, WritesFront, Tells}
 use Rattle.tools_cli.specs.RestoreAnswers.{RestoreAnswers}
 use Rattle.tools_cli.specs.ShowAnswers.{ShowAnswers}
 use Rattle.tools_cli.specs.UsageAnswers.{UsageAnswers}

@@ -1,23 +1,16 @@
 -- The ends that a call is lent, before and after it.
-use Rattle.std.specs.Prelude.{◌≡◌, ◌⊎◌, ℕ, List, Option}
+use Rattle.std.specs.Prelude.{◌≡◌, ◌⊎◌, ℕ, List}
 use Rattle.std.specs.Io.KnownBytes.{Appends, Keeps}
 use Rattle.tool_io.specs.Causes.{Rose, AppendsFront}
+use Rattle.tool_io.specs.Ends.{End}
 
--- what an end tells, the bytes that are left or written, and its count of faults
-pub record End : Type 0 where
-  pub bytes : Option (List ℕ)
-  pub faults : ℕ
-
+-- an end before and after a call
 pub record Turn : Type 0 where
   pub before : End
   pub after : End
 
--- what an end tells by these two
-abbrev pub end_of : {X : Type 0} → (X → Option (List ℕ)) → (X → ℕ) → X → End
-end_of bytes faults x = record { bytes = bytes x; faults = faults x }
-
-abbrev pub turn : {X : Type 0} → (X → Option (List ℕ)) → (X → ℕ) → X → X → Turn
-turn bytes faults old new = record { before = end_of bytes faults old; after = end_of bytes faults new }
+abbrev pub turn : End → End → Turn
+turn old new = record { before = old; after = new }
 
 -- nothing was read or written
 abbrev pub Same : Turn → Type 0

@@ -6,8 +6,8 @@ use Rattle.hex.specs.Hex.{encode_lower}
 use Rattle.bson_value.specs.declared.namespace.NsName.{NsName}
 use Rattle.bson_check.specs.declared.fault.BsonKind.{BsonKind}
 use Rattle.bson_check.specs.declared.fault.BsonKind.TheVariants as kinds
-use Rattle.archive_format.specs.declared.fault.DemuxFault.{DemuxFault}
-use Rattle.archive_format.specs.declared.fault.DemuxFault.TheVariants as faults
+use Rattle.archive_format.specs.declared.fault.FormatFault.{FormatFault}
+use Rattle.archive_format.specs.declared.fault.FormatFault.TheVariants as faults
 use Rattle.state_listing.specs.Listing.{name_text}
 use Rattle.tools_cli.specs.declared.status.ArchiveFault.{ArchiveFault}
 use Rattle.tools_cli.specs.declared.status.ArchiveFault.TheVariants as refusals
@@ -40,7 +40,7 @@ abbrev pub sum_text : ℕ → List ℕ
 sum_text n = encode_lower (to_be_bytes w64 n)
 
 -- what stands behind `bad archive: `
-abbrev pub format_text : DemuxFault → List ℕ
+abbrev pub format_text : FormatFault → List ℕ
 format_text faults.BadMagic = codes "bad magic"
 format_text (faults.Truncated at) = numbered (codes "truncated at ") at
 format_text (faults.BadBson at kind) = numbered (codes "bad document at ") at ++ codes " kind " ++ kind_text kind
@@ -51,7 +51,6 @@ format_text (faults.DocsInEnd at) = numbered (codes "document in end at ") at
 format_text (faults.Crc ns said found) = codes "crc of " ++ quoted_name ns ++ codes " said " ++ sum_text said ++ codes " found " ++ sum_text found
 format_text (faults.NotEnded ns) = quoted_name ns ++ codes " not ended"
 format_text faults.TooLong = codes "too long"
-format_text _ = []
 
 abbrev pub refusal_text : ArchiveFault → List ℕ
 refusal_text (refusals.Format f) = format_text f

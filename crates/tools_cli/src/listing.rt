@@ -17,8 +17,8 @@ pub fn list_archive<S: Source, K: Sink>(
     output: &mut K,
 ) -> Status
     ensures { RestoreSays order.now result
-        (turn S.left S.faults input.old input.new)
-        (turn K.written K.faults output.old output.new) }
+        (turn (S.end input.old) (S.end input.new))
+        (turn (K.end output.old) (K.end output.new)) }
 {
     match restore(alloc, input) {
         Ok(collections) => match collections.list(alloc, order.form, output) {

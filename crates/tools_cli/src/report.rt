@@ -5,7 +5,7 @@ ghost use Rattle.tools_cli.specs.Answers.{Told, RunsOut};
 ghost use Rattle.tools_cli.specs.Lines.{kind_text, quoted_name, sum_text, format_text, refusal_text, usage_line, refusal_line, line_of};
 
 use crate::status::{ArchiveFault, Status};
-use archive_format::DemuxFault;
+use archive_format::FormatFault;
 use bson_check::BsonKind;
 use bson_value::NsName;
 use std::alloc::{AllocError, Global};
@@ -14,8 +14,8 @@ use tool_io::{Fault, Sink};
 // Tells the line of a status. Where that finds no memory, that is the status.
 fn tell_line<R: Sink>(report: &mut R, line: &[u8], status: Status) -> Status
     requires { line.now ≡ line_of status }
-    ensures { ((result ≡ status) × Tells (turn R.written R.faults report.old report.new) (line_of status))
-        ⊎ ((result ≡ Status.NoMemory) × RunsOut status (turn R.written R.faults report.old report.new)) }
+    ensures { ((result ≡ status) × Tells (turn (R.end report.old) (R.end report.new)) (line_of status))
+        ⊎ ((result ≡ Status.NoMemory) × RunsOut status (turn (R.end report.old) (R.end report.new))) }
 {
     match report.write(line) {
         Ok(()) | Err(Fault::Failed) => status,
@@ -56,7 +56,7 @@ fn sum(alloc: Global, n: u64) -> Result<String, AllocError>
 }
 
 fn crc_text(alloc: Global, ns: &NsName, said: u64, found: u64) -> Result<String, AllocError>
-    ensures { IfOk result (λ s. string_bytes s ≡ format_text (DemuxFault.Crc ns.now said found)) }
+    ensures { IfOk result (λ s. string_bytes s ≡ format_text (FormatFault.Crc ns.now said found)) }
 {
     let name = quoted(alloc, ns)?;
     let said = sum(alloc, said)?;
@@ -65,7 +65,7 @@ fn crc_text(alloc: Global, ns: &NsName, said: u64, found: u64) -> Result<String,
 }
 
 fn bson_text(alloc: Global, at: u64, kind: BsonKind) -> Result<String, AllocError>
-    ensures { IfOk result (λ s. string_bytes s ≡ format_text (DemuxFault.BadBson at kind)) }
+    ensures { IfOk result (λ s. string_bytes s ≡ format_text (FormatFault.BadBson at kind)) }
 {
     let place = format!(in alloc; "bad document at {at}")?;
     let digit = kind_text(kind);
@@ -73,37 +73,34 @@ fn bson_text(alloc: Global, at: u64, kind: BsonKind) -> Result<String, AllocErro
 }
 
 fn after_end_text(alloc: Global, ns: &NsName, at: u64) -> Result<String, AllocError>
-    ensures { IfOk result (λ s. string_bytes s ≡ format_text (DemuxFault.AfterEnd ns.now at)) }
+    ensures { IfOk result (λ s. string_bytes s ≡ format_text (FormatFault.AfterEnd ns.now at)) }
 {
     let name = quoted(alloc, ns)?;
     format!(in alloc; "after end of {name} at {at}")
 }
 
 fn not_ended_text(alloc: Global, ns: &NsName) -> Result<String, AllocError>
-    ensures { IfOk result (λ s. string_bytes s ≡ format_text (DemuxFault.NotEnded ns.now)) }
+    ensures { IfOk result (λ s. string_bytes s ≡ format_text (FormatFault.NotEnded ns.now)) }
 {
     let name = quoted(alloc, ns)?;
     format!(in alloc; "{name} not ended")
 }
 
 // What is wrong with the bytes.
-fn format_text(alloc: Global, fault: &DemuxFault) -> Result<String, AllocError>
+fn format_text(alloc: Global, fault: &FormatFault) -> Result<String, AllocError>
     ensures { IfOk result (λ s. string_bytes s ≡ format_text fault.now) }
 {
     match fault {
-        DemuxFault::BadMagic => format!(in alloc; "bad magic"),
-        DemuxFault::Truncated { at } => format!(in alloc; "truncated at {at}"),
-        DemuxFault::BadBson { at, kind } => bson_text(alloc, *at, *kind),
-        DemuxFault::BadPrelude { at } => format!(in alloc; "bad prelude at {at}"),
-        DemuxFault::BadHeader { at } => format!(in alloc; "bad header at {at}"),
-        DemuxFault::AfterEnd { ns, at } => after_end_text(alloc, ns, *at),
-        DemuxFault::DocsInEnd { at } => format!(in alloc; "document in end at {at}"),
-        DemuxFault::Crc { ns, said, found } => crc_text(alloc, ns, *said, *found),
-        DemuxFault::NotEnded { ns } => not_ended_text(alloc, ns),
-        DemuxFault::TooLong => format!(in alloc; "too long"),
-        DemuxFault::ReadFault | DemuxFault::Stopped | DemuxFault::NoMemory => Ok(String::new(
-            alloc,
-        )),
+        FormatFault::BadMagic => format!(in alloc; "bad magic"),
+        FormatFault::Truncated { at } => format!(in alloc; "truncated at {at}"),
+        FormatFault::BadBson { at, kind } => bson_text(alloc, *at, *kind),
+        FormatFault::BadPrelude { at } => format!(in alloc; "bad prelude at {at}"),
+        FormatFault::BadHeader { at } => format!(in alloc; "bad header at {at}"),
+        FormatFault::AfterEnd { ns, at } => after_end_text(alloc, ns, *at),
+        FormatFault::DocsInEnd { at } => format!(in alloc; "document in end at {at}"),
+        FormatFault::Crc { ns, said, found } => crc_text(alloc, ns, *said, *found),
+        FormatFault::NotEnded { ns } => not_ended_text(alloc, ns),
+        FormatFault::TooLong => format!(in alloc; "too long"),
     }
 }
 
@@ -147,8 +144,8 @@ fn usage_line(alloc: Global, word: usize) -> Result<String, AllocError>
 // Tells a text that was made for this status, if there was memory for it.
 fn tell_text<R: Sink>(report: &mut R, text: Result<String, AllocError>, status: Status) -> Status
     requires { IfOk text (λ s. string_bytes s ≡ line_of status) }
-    ensures { ((result ≡ status) × Tells (turn R.written R.faults report.old report.new) (line_of status))
-        ⊎ ((result ≡ Status.NoMemory) × RunsOut status (turn R.written R.faults report.old report.new)) }
+    ensures { ((result ≡ status) × Tells (turn (R.end report.old) (R.end report.new)) (line_of status))
+        ⊎ ((result ≡ Status.NoMemory) × RunsOut status (turn (R.end report.old) (R.end report.new))) }
 {
     match text {
         Ok(text) => tell_line(report, text.as_bytes(), status),
@@ -157,8 +154,8 @@ fn tell_text<R: Sink>(report: &mut R, text: Result<String, AllocError>, status: 
 }
 
 fn tell_refusal<R: Sink>(alloc: Global, fault: ArchiveFault, report: &mut R) -> Status
-    ensures { ((result ≡ Status.BadArchive fault) × Tells (turn R.written R.faults report.old report.new) (line_of (Status.BadArchive fault)))
-        ⊎ ((result ≡ Status.NoMemory) × RunsOut (Status.BadArchive fault) (turn R.written R.faults report.old report.new)) }
+    ensures { ((result ≡ Status.BadArchive fault) × Tells (turn (R.end report.old) (R.end report.new)) (line_of (Status.BadArchive fault)))
+        ⊎ ((result ≡ Status.NoMemory) × RunsOut (Status.BadArchive fault) (turn (R.end report.old) (R.end report.new))) }
 {
     let text = refusal_line(alloc, &fault);
     tell_text(report, text, Status::BadArchive(fault))
@@ -166,7 +163,7 @@ fn tell_refusal<R: Sink>(alloc: Global, fault: ArchiveFault, report: &mut R) -> 
 
 /// Tells the status on the report. A failing write changes nothing of it, and want of memory is the status then.
 pub fn tell<R: Sink>(alloc: Global, status: Status, report: &mut R) -> Status
-    ensures { Told status result (turn R.written R.faults report.old report.new) }
+    ensures { Told status result (turn (R.end report.old) (R.end report.new)) }
 {
     match status {
         Status::Done => Status::Done,

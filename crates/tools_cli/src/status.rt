@@ -1,14 +1,14 @@
 ghost use Rattle.std.specs.Prelude.{◌≡◌};
 ghost use Rattle.tools_cli.specs.Statuses.{code_of, NumbersTellApart};
 
-use archive_format::DemuxFault;
+use archive_format::FormatFault;
 use bson_value::NsName;
 
 /// Why an input isn't restored.
 #[derive(Debug, Drop)]
 pub enum ArchiveFault {
     /// It is no archive.
-    Format(DemuxFault),
+    Format(FormatFault),
     /// A document outside the oplog has no `_id`.
     NoId { ns: NsName },
     /// A text is no metadata. The place is that of the fault in the text, or the text's length.

@@ -17,7 +17,7 @@ use tool_io::{Fault, Sink, Source};
 
 // Writes a text that the command shows.
 fn show<K: Sink>(text: &str, output: &mut K) -> Status
-    ensures { Shown text.now result (turn K.written K.faults output.old output.new) }
+    ensures { Shown text.now result (turn (K.end output.old) (K.end output.new)) }
 {
     match output.write(text.as_bytes()) {
         Ok(()) => Status::Done,
@@ -35,9 +35,9 @@ fn perform<S: Source, K: Sink, R: Sink>(
     report: &mut R,
 ) -> Status
     ensures { Says (Ok order) result
-        (turn S.left S.faults input.old input.new)
-        (turn K.written K.faults output.old output.new)
-        (turn R.written R.faults report.old report.new) }
+        (turn (S.end input.old) (S.end input.new))
+        (turn (K.end output.old) (K.end output.new))
+        (turn (R.end report.old) (R.end report.new)) }
 {
     match order {
         Order::Restore(order) => list_archive(alloc, &order, input, output),
@@ -55,9 +55,9 @@ fn run<S: Source, K: Sink, R: Sink>(
     report: &mut R,
 ) -> Status
     ensures { Says (meaning_of (texts_of words.now)) result
-        (turn S.left S.faults input.old input.new)
-        (turn K.written K.faults output.old output.new)
-        (turn R.written R.faults report.old report.new) }
+        (turn (S.end input.old) (S.end input.new))
+        (turn (K.end output.old) (K.end output.new))
+        (turn (R.end report.old) (R.end report.new)) }
 {
     match words::read(alloc, words) {
         Ok(order) => perform(alloc, order, input, output, report),
@@ -76,9 +76,9 @@ pub fn tools<S: Source, K: Sink, R: Sink>(
     report: &mut R,
 ) -> u8
     ensures { Answers (meaning_of (texts_of words.now)) result
-        (turn S.left S.faults input.old input.new)
-        (turn K.written K.faults output.old output.new)
-        (turn R.written R.faults report.old report.new) }
+        (turn (S.end input.old) (S.end input.new))
+        (turn (K.end output.old) (K.end output.new))
+        (turn (R.end report.old) (R.end report.new)) }
 {
     let status = run(alloc, words, input, output, report);
     tell(alloc, status, report).code()

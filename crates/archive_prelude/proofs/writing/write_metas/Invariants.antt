@@ -7,6 +7,6 @@ use Rattle.archive_prelude.proofs.writing.write_metas.Given as goal
 
 abbrev pub invariant-loop-meta : goal.invariant-loop-meta
 invariant-loop-meta g l = record {
-  appends : Appends (g.K.Sink.written l.fn.sink) (g.K.Sink.written l.sink) (flat_map (λ m. meta_text (metadata_of m)) (take l.meta-index l.metas));
-  later : g.K.Sink.faults l.fn.sink ≤ g.K.Sink.faults l.sink;
+  appends : Appends (g.K.Sink.end l.fn.sink).bytes (g.K.Sink.end l.sink).bytes (flat_map (λ m. meta_text (metadata_of m)) (take l.meta-index l.metas));
+  later : (g.K.Sink.end l.fn.sink).faults ≤ (g.K.Sink.end l.sink).faults;
 }

@@ -7,8 +7,7 @@ use Rattle.tools_cli.proofs.listing.list_archive.Goals as goal
 
 pub returns-in-Ok : goal.returns-in-Ok
 returns-in-Ok g c =
-    let left = g.S.Source.left in
     let s = base (takings_of c.in-Ok.collections) in (
-      all_read (left c.args.input.now) (left c.restore.new.source) s c.in-Ok.ensures.restored,
-      inr (listing c.args.order.now.form s, (s, outcome (left c.args.input.now) (left c.restore.new.source) s c.in-Ok.ensures.restored, refl), c.in-Err-NoMemory-list.ensures.err),
+      all_read (g.S.Source.end c.args.input.now).bytes (g.S.Source.end c.restore.new.source).bytes s c.in-Ok.ensures.restored,
+      inr (listing c.args.order.now.form s, (s, outcome (g.S.Source.end c.args.input.now).bytes (g.S.Source.end c.restore.new.source).bytes s c.in-Ok.ensures.restored, refl), c.in-Err-NoMemory-list.ensures.err),
     )

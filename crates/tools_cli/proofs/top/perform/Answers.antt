@@ -8,8 +8,8 @@ use Rattle.tools_cli.proofs.top.perform.Goals as goal
 
 pub returns-in-Restore : goal.returns-in-Restore
 returns-in-Restore g c =
-    let input = turn g.S.Source.left g.S.Source.faults c.args.input.now c.list_archive.new.input in
-    let output = turn g.K.Sink.written g.K.Sink.faults c.args.output.now c.list_archive.new.output in
-    let report = turn g.R.Sink.written g.R.Sink.faults c.args.report.now c.args.report.now in
+    let input = turn (g.S.Source.end c.args.input.now) (g.S.Source.end c.list_archive.new.input) in
+    let output = turn (g.K.Sink.end c.args.output.now) (g.K.Sink.end c.list_archive.new.output) in
+    let report = turn (g.R.Sink.end c.args.report.now) (g.R.Sink.end c.args.report.now) in
     let P : Order → Type 0 = λ order. Says (Ok order) c.list_archive.result input output report in
     subst P (sym c.in-Restore.is) (restore_says c.in-Restore.order c.list_archive.result input output report c.list_archive.ensures refl)

@@ -9,18 +9,16 @@ use Rattle.archive_blocks.proofs.writer.BlockWriter.block.Goals as goal
 
 pub returns-in_err-write-clause-err : goal.returns-in_err-write-clause-err
 returns-in_err-write-clause-err g c =
-    let w = g.K.Sink.written in
-    let a = w c.args.sink.now in
-    let b = w c.write.new.self in
+    let a = (g.K.Sink.end c.args.sink.now).bytes in
+    let b = (g.K.Sink.end c.write.new.self).bytes in
     let is : c.in_ok-head.head ≡ head_text c.args.self.now.ns false (pos 0) = c.in_ok-head.ensures ∙ ap (λ z. head_text z.ns false (pos 0)) c.self.view_is in
     whatever_err c.from_residual-in_err-write.result (head_front a b b b c.args.self.now.ns c.args.docs.now (λ e. let k = c.if-is_empty.ensures.1 e in cc) c.in_ok-head.head is (subst (λ (z : List ℕ). AppendsFront a b z) c.as_slice.ensures c.in_err-write.ensures.err))
 
 pub returns-in_err-write_all-clause-err : goal.returns-in_err-write_all-clause-err
 returns-in_err-write_all-clause-err g c =
-    let w = g.K.Sink.written in
-    let a = w c.args.sink.now in
-    let b = w c.write.new.self in
-    let e = w c.write_all.new.sink in
+    let a = (g.K.Sink.end c.args.sink.now).bytes in
+    let b = (g.K.Sink.end c.write.new.self).bytes in
+    let e = (g.K.Sink.end c.write_all.new.sink).bytes in
     let is : c.in_ok-head.head ≡ head_text c.args.self.now.ns false (pos 0) = c.in_ok-head.ensures ∙ ap (λ z. head_text z.ns false (pos 0)) c.self.view_is in
     whatever_err c.from_residual-in_err-write_all.result
     (documents_front a b e e c.args.self.now.ns c.args.docs.now (λ k. let j = c.if-is_empty.ensures.1 k in cc) c.in_ok-head.head is (subst (λ (z : List ℕ). Appends a b z) c.as_slice.ensures c.in_ok-write.ensures.ok)
@@ -28,11 +26,10 @@ returns-in_err-write_all-clause-err g c =
 
 pub returns-clause-ok : goal.returns-clause-ok
 returns-clause-ok g c =
-    let w = g.K.Sink.written in
-    let a = w c.args.sink.now in
-    let b = w c.write.new.self in
-    let e = w c.write_all.new.sink in
-    let f = w c.write-2.new.self in
+    let a = (g.K.Sink.end c.args.sink.now).bytes in
+    let b = (g.K.Sink.end c.write.new.self).bytes in
+    let e = (g.K.Sink.end c.write_all.new.sink).bytes in
+    let f = (g.K.Sink.end c.write-2.new.self).bytes in
     let is : c.in_ok-head.head ≡ head_text c.args.self.now.ns false (pos 0) = c.in_ok-head.ensures ∙ ap (λ z. head_text z.ns false (pos 0)) c.self.view_is in
     on_ok c.write-2.result
     (whole_block a b e f c.args.self.now.ns c.args.docs.now (λ k. let j = c.if-is_empty.ensures.1 k in cc) c.in_ok-head.head is (subst (λ (z : List ℕ). Appends a b z) c.as_slice.ensures c.in_ok-write.ensures.ok)
@@ -41,11 +38,10 @@ returns-clause-ok g c =
 
 pub returns-clause-err : goal.returns-clause-err
 returns-clause-err g c =
-    let w = g.K.Sink.written in
-    let a = w c.args.sink.now in
-    let b = w c.write.new.self in
-    let e = w c.write_all.new.sink in
-    let f = w c.write-2.new.self in
+    let a = (g.K.Sink.end c.args.sink.now).bytes in
+    let b = (g.K.Sink.end c.write.new.self).bytes in
+    let e = (g.K.Sink.end c.write_all.new.sink).bytes in
+    let f = (g.K.Sink.end c.write-2.new.self).bytes in
     let is : c.in_ok-head.head ≡ head_text c.args.self.now.ns false (pos 0) = c.in_ok-head.ensures ∙ ap (λ z. head_text z.ns false (pos 0)) c.self.view_is in
     on_err c.write-2.result
     (stop_front a b e f c.args.self.now.ns c.args.docs.now (λ k. let j = c.if-is_empty.ensures.1 k in cc) c.in_ok-head.head is (subst (λ (z : List ℕ). Appends a b z) c.as_slice.ensures c.in_ok-write.ensures.ok)

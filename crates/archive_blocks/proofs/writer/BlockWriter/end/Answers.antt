@@ -6,6 +6,5 @@ use Rattle.archive_blocks.proofs.writer.BlockWriter.end.Goals as goal
 
 pub returns-clause-err : goal.returns-clause-err
 returns-clause-err g c =
-    let w = g.K.Sink.written in
     let is : c.as_slice.result.now ≡ end_text c.args.self.now.ns c.args.self.now.sum = search rules in
-    on_err c.write.result (subst (λ (z : List ℕ). AppendsFront (w c.args.sink.now) (w c.write.new.self) z) is) c.write.ensures.err
+    on_err c.write.result (subst (λ (z : List ℕ). AppendsFront (g.K.Sink.end c.args.sink.now).bytes (g.K.Sink.end c.write.new.self).bytes z) is) c.write.ensures.err

@@ -1,7 +1,7 @@
 use Rattle.std.proofs.Common.{◌≡◌, ℕ, take, drop, subst, ap, Err, inl, inr, arith, rules}
 use Rattle.std.specs.Prelude.{None}
 use Rattle.archive_format.specs.Archive.{early, size_of, item_of, Asks}
-use Rattle.archive_format.specs.declared.fault.DemuxFault.TheVariants.{NoMemory}
+use Rattle.demux.specs.declared.fault.DemuxFault.TheVariants.{NoMemory}
 use Rattle.archive_format.proofs.Fronts.{begins}
 use Rattle.demux.specs.Steps.{stage_of}
 use Rattle.demux.proofs.progress.Progress.item.Goals as goal

@@ -4,16 +4,16 @@ use Rattle.archive_format.specs.Archive.{end_step}
 use Rattle.demux.proofs.Seats.{right_sum}
 use Rattle.demux.proofs.progress.Progress.mark_ended.Goals as goal
 
-pub returns-in-None-clause-names : goal.returns-in-None-clause-names
+pub returns-in-None : goal.returns-in-None
 unfolding end_step
-returns-in-None-clause-names c =
+returns-in-None c =
     let e = c.in-Some.entry.now in
     let is : slice_get c.args.self.now.seen c.args.i ≡ Some e = sym c.in-Some.ensures.entry in
     let k = c.close-in-None.ensures e is in
     (record e { ended = true }, k.1, rw (is, c.in-None.is) k.0)
 
-pub returns-in-Some-2-clause-names : goal.returns-in-Some-2-clause-names
-returns-in-Some-2-clause-names c =
+pub returns-in-Some-2 : goal.returns-in-Some-2
+returns-in-Some-2 c =
     let e = c.in-Some.entry.now in
     let is : slice_get c.args.self.now.seen c.args.i ≡ Some e = sym c.in-Some.ensures.entry in
     let k = c.close.ensures e is in

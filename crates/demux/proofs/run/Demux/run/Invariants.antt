@@ -8,14 +8,14 @@ abbrev pub invariant-turns : goal.invariant-turns
 invariant-turns g l =
     let taker = g.T.DocTaker in
     record {
-      stands : Stands (g.S.Source.left l.fn.source) (g.S.Source.left l.source) (stage_of l.progress) l.at l.window.bytes (taker.keeps l.fn.taker) (taker.kept l.fn.taker) (taker.kept l.taker);
+      stands : Stands (g.S.Source.end l.fn.source).bytes (g.S.Source.end l.source).bytes (stage_of l.progress) l.at l.window.bytes (taker.keeps l.fn.taker) (taker.kept l.fn.taker) (taker.kept l.taker);
       same : taker.keeps l.taker ≡ taker.keeps l.fn.taker;
       stops : taker.stops l.taker ≡ 0;
       starved : taker.starved l.taker ≡ 0;
       within : l.at ≤ limit;
       size : l.window.size ≡ 16793600;
       room : length l.window.bytes ≤ 16793600;
-      later : g.S.Source.faults l.fn.source ≤ g.S.Source.faults l.source;
+      later : (g.S.Source.end l.fn.source).faults ≤ (g.S.Source.end l.source).faults;
     }
 
 abbrev pub decreases-turns : goal.decreases-turns
