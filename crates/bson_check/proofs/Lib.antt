@@ -10,4 +10,5 @@ pub mod Cutting
 pub mod Again
 pub mod Found
 pub mod Height
+pub mod Formed
 pub mod Whole
