@@ -10,3 +10,4 @@ pub mod Decimals
 pub mod Once
 pub mod Unwrapped
 pub mod Shallow
+pub mod Deeper
