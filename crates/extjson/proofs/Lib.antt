@@ -11,3 +11,4 @@ pub mod Once
 pub mod Unwrapped
 pub mod Shallow
 pub mod Deeper
+pub mod Formed

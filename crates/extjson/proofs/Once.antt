@@ -25,11 +25,11 @@ pub data Plain (t : List ℕ) : Type 0 where
   a_long : (z : ℤ) → number_tree t ≡ long_tree z → Plain t
   as_it_is : number_tree t ≡ trees.Number t → Plain t
 
-not_whole : (t : List ℕ) → is_whole t ≡ false → number_tree t ≡ trees.Number t
+pub not_whole : (t : List ℕ) → is_whole t ≡ false → number_tree t ≡ trees.Number t
 unfolding number_tree plain_value
 not_whole t h = rw h refl
 
-too_far : (t : List ℕ) → is_whole t ≡ true → None ≡ in_range 2147483648 (whole_number t) → None ≡ in_range 9223372036854775808 (whole_number t) → number_tree t ≡ trees.Number t
+pub too_far : (t : List ℕ) → is_whole t ≡ true → None ≡ in_range 2147483648 (whole_number t) → None ≡ in_range 9223372036854775808 (whole_number t) → number_tree t ≡ trees.Number t
 unfolding number_tree plain_value whole_value
 too_far t h q r = rw (h, ← q, ← r) refl
 
