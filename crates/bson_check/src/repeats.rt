@@ -8,6 +8,7 @@ use crate::blocks::{LONGEST, in_blocks};
 use crate::fault::{BsonFault, BsonKind};
 use crate::passing::step;
 use crate::sieve::{Sieve, put_kept, sift};
+use crate::slots::FACTOR;
 use std::cmp::Ordering;
 
 // Whether an element of this name stands in the bytes before the last `left` ones.
@@ -34,9 +35,6 @@ fn is_above(name: &[u8], top: &[u8]) -> bool
     matches!(top.cmp(name), Ordering::Less)
 }
 
-// Any odd number with bits all over it.
-const FACTOR: u32 = 2654435769;
-
 // How many names that weren't there may share their slots with names before them.
 const SHARED: u32 = 2;
 
@@ -46,7 +44,7 @@ fn in_slots(
     body: &[u8],
     left: usize,
     sieve: Sieve<'_>,
-    factor: u32,
+    factor: u64,
     words: &mut [u64],
 ) -> Option<Option<usize>>
     requires fits { length body.now ≤ end }
@@ -82,7 +80,7 @@ fn sifted(
     body: &[u8],
     left: usize,
     sieve: Sieve<'_>,
-    factor: u32,
+    factor: u64,
     words: &mut [u64],
     marks: &mut [u64],
 ) -> Option<Option<usize>>
@@ -128,33 +126,33 @@ fn in_rounds(
         factor: FACTOR,
         words: &none,
     };
-    let found = sifted(end, body, left, every, 2246822519, words, marks);
+    let found = sifted(end, body, left, every, 15485907386658061715, words, marks);
     if found.is_some() {
         return found;
     }
     let first = Sieve {
         every: false,
-        factor: 2246822519,
+        factor: 15485907386658061715,
         words: marks,
     };
-    let found = sifted(end, body, left, first, 3266489917, words, others);
+    let found = sifted(end, body, left, first, 14029467366897019727, words, others);
     if found.is_some() {
         return found;
     }
     let second = Sieve {
         every: false,
-        factor: 3266489917,
+        factor: 14029467366897019727,
         words: others,
     };
-    sifted(end, body, left, second, 668265263, words, marks)
+    sifted(end, body, left, second, 11562461410679940143, words, marks)
 }
 
 // The longest bodies whose names go into a small and into a large set, and the longest whose names rarely share a slot of the largest set.
-const SMALL: usize = 4096;
+const SMALL: usize = 2048;
 
-const LARGE: usize = 65536;
+const LARGE: usize = 32768;
 
-const SPARSE: usize = 524288;
+const SPARSE: usize = 131072;
 
 // Looks among all names, and in rounds where too many share their slots.
 fn in_sets(

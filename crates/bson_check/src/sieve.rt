@@ -10,7 +10,7 @@ use crate::slots::{may_have, put};
 #[derive(Clone, Copy)]
 pub(crate) struct Sieve<'a> {
     pub(crate) every: bool,
-    pub(crate) factor: u32,
+    pub(crate) factor: u64,
     pub(crate) words: &'a [u64],
 }
 
@@ -22,7 +22,7 @@ fn keeps(sieve: Sieve<'_>, name: &[u8]) -> bool
 }
 
 // Puts the name into the set where the sieve keeps it, and says whether it may have been there.
-pub(crate) fn put_kept(sieve: Sieve<'_>, factor: u32, name: &[u8], words: &mut [u64]) -> bool
+pub(crate) fn put_kept(sieve: Sieve<'_>, factor: u64, name: &[u8], words: &mut [u64]) -> bool
     requires some_sieve { 0 < length sieve.words.now }
     requires some_words { 0 < length words.old }
     ensures there { IsKept sieve.entry.every sieve.entry.factor sieve.entry.words.now name.now → IsMarked words.old factor name.now → IsTrue result }
@@ -38,10 +38,10 @@ pub(crate) fn put_kept(sieve: Sieve<'_>, factor: u32, name: &[u8], words: &mut [
 // Puts the name into the set where the sieve keeps it, and marks it where it may have been there.
 fn mark_kept(
     sieve: Sieve<'_>,
-    factor: u32,
+    factor: u64,
     name: &[u8],
     words: &mut [u64],
-    next: u32,
+    next: u64,
     marks: &mut [u64],
 )
     requires some_sieve { 0 < length sieve.words.now }
@@ -62,9 +62,9 @@ pub(crate) fn sift(
     body: &[u8],
     left: usize,
     sieve: Sieve<'_>,
-    factor: u32,
+    factor: u64,
     words: &mut [u64],
-    next: u32,
+    next: u64,
     marks: &mut [u64],
 )
     requires some_sieve { 0 < length sieve.words.now }
