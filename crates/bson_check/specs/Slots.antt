@@ -5,20 +5,20 @@ use Rattle.std.specs.Int.Bits.{bit_and}
 
 abbrev pub hash_on : ℕ → ℕ → List ℕ → ℕ
 hash_on factor h [] = h
-hash_on factor h (b ∷ bs) = hash_on factor ((h + b) % 4294967296 * factor % 4294967296) bs
+hash_on factor h (b ∷ bs) = hash_on factor ((h + b) % 18446744073709551616 * factor % 18446744073709551616) bs
 
 unfoldable pub slot_of : ℕ → List ℕ → ℕ
 slot_of factor name = hash_on factor 0 name
 
 -- one of so many words, and two bits of it
 abbrev pub word_of : ℕ → ℕ → ℕ
-word_of words slot = bit_and (slot / 65536) (words - 1)
+word_of words slot = bit_and (slot / 281474976710656) (words - 1)
 
 abbrev pub first_bit : ℕ → ℕ
-first_bit slot = slot / 1024 % 64
+first_bit slot = slot / 4398046511104 % 64
 
 abbrev pub second_bit : ℕ → ℕ
-second_bit slot = slot / 16 % 64
+second_bit slot = slot / 68719476736 % 64
 
 abbrev pub HasBitsAt : ℕ → List ℕ → ℕ → Type 0
 HasBitsAt i words slot = (bit_at (slice_index words i) (first_bit slot) ≡ 1) × (bit_at (slice_index words i) (second_bit slot) ≡ 1)

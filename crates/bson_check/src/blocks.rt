@@ -5,7 +5,7 @@ ghost use Rattle.bson_check.specs.Blocks.{IsEnd, name_at, starts, InOrder, Known
 ghost use Rattle.bson_check.specs.Slots.{IsMarked};
 
 use crate::passing::step;
-use crate::slots::{mark, may_have};
+use crate::slots::{FACTOR, mark, may_have};
 use crate::table::{is_known, sort};
 
 // The longest body of which a place is a u32.
@@ -36,7 +36,7 @@ fn fill<'a>(from: &'a [u8], left: usize, block: &mut [u32]) -> (usize, &'a [u8])
 
 // Whether an element of the block before this place has this name. Most names that it hasn't are told by their slot.
 fn stands_before(
-    factor: u32,
+    factor: u64,
     words: &[u64],
     body: &[u8],
     block: &[u32],
@@ -65,7 +65,7 @@ fn first_known(body: &[u8], block: &[u32], words: &mut [u64], from: &[u8], stop:
     ensures first { (ns : List (List ℕ)) → (to : List ℕ) → Path ns from.now to → length to ≤ stop → FirstKnown body.now block.now (starts ns from.now) stop result }
 {
     // Another hash for each block: names that share their slots in one block don't in the others.
-    let factor = (from.len() as u32).wrapping_mul(2654435761) | 1;
+    let factor = (from.len() as u64).wrapping_mul(FACTOR) | 1;
     words.fill(0);
     mark(factor, body, block, words);
     let mut rest = from;

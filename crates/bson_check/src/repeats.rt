@@ -8,6 +8,7 @@ use crate::blocks::{LONGEST, in_blocks};
 use crate::fault::{BsonFault, BsonKind};
 use crate::passing::step;
 use crate::sieve::{Sieve, put_kept, sift};
+use crate::slots::FACTOR;
 use std::cmp::Ordering;
 
 // Whether an element of this name stands in the bytes before the last `left` ones.
@@ -34,9 +35,6 @@ fn is_above(name: &[u8], top: &[u8]) -> bool
     matches!(top.cmp(name), Ordering::Less)
 }
 
-// Any odd number with bits all over it.
-const FACTOR: u32 = 2654435769;
-
 // How many names that weren't there may share their slots with names before them.
 const SHARED: u32 = 2;
 
@@ -46,7 +44,7 @@ fn in_slots(
     body: &[u8],
     left: usize,
     sieve: Sieve<'_>,
-    factor: u32,
+    factor: u64,
     words: &mut [u64],
 ) -> Option<Option<usize>>
     requires fits { length body.now ≤ end }
@@ -76,13 +74,13 @@ fn in_slots(
     Some(None)
 }
 
-// Marks the names that the sieve keeps and that may stand twice, and looks among those that are marked.
+// Marks the names that the sieve keeps and that may stand twice, and looks among those that are marked where they aren't too many.
 fn sifted(
     end: usize,
     body: &[u8],
     left: usize,
     sieve: Sieve<'_>,
-    factor: u32,
+    factor: u64,
     words: &mut [u64],
     marks: &mut [u64],
 ) -> Option<Option<usize>>
@@ -97,7 +95,10 @@ fn sifted(
     let other = factor.wrapping_mul(FACTOR);
     words.fill(0);
     marks.fill(0);
-    sift(body, left, sieve, other, words, factor, marks);
+    let count = sift(body, left, sieve, other, words, factor, marks);
+    if words.len() / 2 < count {
+        return None;
+    }
     words.fill(0);
     let next = Sieve {
         every: false,
@@ -128,33 +129,35 @@ fn in_rounds(
         factor: FACTOR,
         words: &none,
     };
-    let found = sifted(end, body, left, every, 2246822519, words, marks);
+    let found = sifted(end, body, left, every, 15485907386658061715, words, marks);
     if found.is_some() {
         return found;
     }
     let first = Sieve {
         every: false,
-        factor: 2246822519,
+        factor: 15485907386658061715,
         words: marks,
     };
-    let found = sifted(end, body, left, first, 3266489917, words, others);
+    let found = sifted(end, body, left, first, 14029467366897019727, words, others);
     if found.is_some() {
         return found;
     }
     let second = Sieve {
         every: false,
-        factor: 3266489917,
+        factor: 14029467366897019727,
         words: others,
     };
-    sifted(end, body, left, second, 668265263, words, marks)
+    sifted(end, body, left, second, 11562461410679940143, words, marks)
 }
 
-// The longest bodies whose names go into a small and into a large set, and the longest whose names rarely share a slot of the largest set.
-const SMALL: usize = 4096;
+// The longest bodies whose names go into a small set, into a middle one and into a large one, and the longest whose names rarely share a slot of the largest set.
+const SMALL: usize = 1024;
 
-const LARGE: usize = 65536;
+const MIDDLE: usize = 8192;
 
-const SPARSE: usize = 524288;
+const LARGE: usize = 32768;
+
+const SPARSE: usize = 131072;
 
 // Looks among all names, and in rounds where too many share their slots.
 fn in_sets(
@@ -192,7 +195,30 @@ fn in_small(end: usize, body: &[u8], left: usize) -> Option<Option<usize>>
     requires fits { length body.now ≤ end }
     ensures { (ns : List (List ℕ)) → (to : List ℕ) → Path ns body.now to → length to ≡ left → IfSome result (λ r. repeat_at end [] ns body.now ≡ r) }
 {
-    in_sets(end, body, left, &mut [0u64; 128], &mut [0u64; 64], &mut [0u64; 64])
+    in_sets(
+        end,
+        body,
+        left,
+        &mut [0u64; 128],
+        &mut [0u64; 64],
+        &mut [0u64; 64],
+    )
+}
+
+// Its sets take 12 KiB of the stack.
+#[inline(never)]
+fn in_middle(end: usize, body: &[u8], left: usize) -> Option<Option<usize>>
+    requires fits { length body.now ≤ end }
+    ensures { (ns : List (List ℕ)) → (to : List ℕ) → Path ns body.now to → length to ≡ left → IfSome result (λ r. repeat_at end [] ns body.now ≡ r) }
+{
+    in_sets(
+        end,
+        body,
+        left,
+        &mut [0u64; 1024],
+        &mut [0u64; 256],
+        &mut [0u64; 256],
+    )
 }
 
 // Its sets take 96 KiB of the stack, so they stand in a frame of their own.
@@ -201,7 +227,14 @@ fn in_large(end: usize, body: &[u8], left: usize) -> Option<Option<usize>>
     requires fits { length body.now ≤ end }
     ensures { (ns : List (List ℕ)) → (to : List ℕ) → Path ns body.now to → length to ≡ left → IfSome result (λ r. repeat_at end [] ns body.now ≡ r) }
 {
-    in_sets(end, body, left, &mut [0u64; 8192], &mut [0u64; 2048], &mut [0u64; 2048])
+    in_sets(
+        end,
+        body,
+        left,
+        &mut [0u64; 8192],
+        &mut [0u64; 2048],
+        &mut [0u64; 2048],
+    )
 }
 
 // Its sets take 768 KiB of the stack.
@@ -210,7 +243,14 @@ fn in_huge(end: usize, body: &[u8], left: usize) -> Option<Option<usize>>
     requires fits { length body.now ≤ end }
     ensures { (ns : List (List ℕ)) → (to : List ℕ) → Path ns body.now to → length to ≡ left → IfSome result (λ r. repeat_at end [] ns body.now ≡ r) }
 {
-    in_sets(end, body, left, &mut [0u64; 65536], &mut [0u64; 16384], &mut [0u64; 16384])
+    in_sets(
+        end,
+        body,
+        left,
+        &mut [0u64; 65536],
+        &mut [0u64; 16384],
+        &mut [0u64; 16384],
+    )
 }
 
 // Its tables take 640 KiB of the stack.
@@ -239,6 +279,8 @@ fn in_any_set(end: usize, body: &[u8], left: usize) -> Option<Option<usize>>
 {
     if body.len() <= SMALL {
         in_small(end, body, left)
+    } else if body.len() <= MIDDLE {
+        in_middle(end, body, left)
     } else if body.len() <= LARGE {
         in_large(end, body, left)
     } else {
@@ -253,7 +295,7 @@ fn in_any_order(end: usize, body: &[u8], left: usize) -> Option<usize>
 {
     match in_any_set(end, body, left) {
         Some(found) => found,
-        None if body.len() <= SMALL => sorted_small(end, body, left),
+        None if body.len() <= MIDDLE => sorted_small(end, body, left),
         None => sorted(end, body, left),
     }
 }
@@ -263,10 +305,10 @@ const FEW: u32 = 1;
 
 /// The first name that stands before it too, by its place, among the elements before the last `left` bytes.
 ///
-/// It takes no memory, and at most 640 KiB of the stack. Names that rise take one walk, and up to some 50,000 in
-/// another order take two. More than that are sorted in blocks of 32,768, and the names behind a block are looked for
-/// in it: n log n steps for n names, and n * n / 65,536 short ones, whatever their order is, which is some seconds for
-/// the 2,000,000 names that 16 MiB hold.
+/// It takes no memory, and at most 768 KiB of the stack. Names that rise take one walk. In another order some 13,000
+/// take one too, some 500,000 two, and the 2,800,000 that 16 MiB hold at most five. Names that are chosen to share
+/// their slots in every round are sorted in blocks of 32,768, and the names behind a block are looked for in it:
+/// n log n steps for n names, and n * n / 65,536 short ones, which is some seconds for 2,000,000 names.
 /// A body of more than 4,294,967,295 bytes, as no document has one, is searched name by name.
 pub fn first_repeat(end: usize, body: &[u8], left: usize) -> Option<usize>
     requires { length body.now ≤ end }

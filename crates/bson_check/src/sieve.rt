@@ -10,7 +10,7 @@ use crate::slots::{may_have, put};
 #[derive(Clone, Copy)]
 pub(crate) struct Sieve<'a> {
     pub(crate) every: bool,
-    pub(crate) factor: u32,
+    pub(crate) factor: u64,
     pub(crate) words: &'a [u64],
 }
 
@@ -22,7 +22,7 @@ fn keeps(sieve: Sieve<'_>, name: &[u8]) -> bool
 }
 
 // Puts the name into the set where the sieve keeps it, and says whether it may have been there.
-pub(crate) fn put_kept(sieve: Sieve<'_>, factor: u32, name: &[u8], words: &mut [u64]) -> bool
+pub(crate) fn put_kept(sieve: Sieve<'_>, factor: u64, name: &[u8], words: &mut [u64]) -> bool
     requires some_sieve { 0 < length sieve.words.now }
     requires some_words { 0 < length words.old }
     ensures there { IsKept sieve.entry.every sieve.entry.factor sieve.entry.words.now name.now → IsMarked words.old factor name.now → IsTrue result }
@@ -35,15 +35,15 @@ pub(crate) fn put_kept(sieve: Sieve<'_>, factor: u32, name: &[u8], words: &mut [
     put(factor, name, words)
 }
 
-// Puts the name into the set where the sieve keeps it, and marks it where it may have been there.
+// Puts the name into the set where the sieve keeps it, and marks it where it may have been there. It says whether it did.
 fn mark_kept(
     sieve: Sieve<'_>,
-    factor: u32,
+    factor: u64,
     name: &[u8],
     words: &mut [u64],
-    next: u32,
+    next: u64,
     marks: &mut [u64],
-)
+) -> bool
     requires some_sieve { 0 < length sieve.words.now }
     requires some_words { 0 < length words.old }
     requires some_marks { 0 < length marks.old }
@@ -52,21 +52,23 @@ fn mark_kept(
     ensures others { (n : List ℕ) → IsMarked words.old factor n → IsMarked words.new factor n }
     ensures marked { (n : List ℕ) → IsMarked marks.old next n → IsMarked marks.new next n }
 {
-    if put_kept(sieve, factor, name, words) {
-        let _there = put(next, name, marks);
+    if !put_kept(sieve, factor, name, words) {
+        return false;
     }
+    let _there = put(next, name, marks);
+    true
 }
 
-// Marks the names that stand twice, and those of the others that meet them in the set.
+// Marks the names that stand twice, and of the others those that meet names in the set. It says how many names it marked.
 pub(crate) fn sift(
     body: &[u8],
     left: usize,
     sieve: Sieve<'_>,
-    factor: u32,
+    factor: u64,
     words: &mut [u64],
-    next: u32,
+    next: u64,
     marks: &mut [u64],
-)
+) -> usize
     requires some_sieve { 0 < length sieve.words.now }
     requires some_words { 0 < length words.old }
     requires some_marks { 0 < length marks.old }
@@ -74,12 +76,15 @@ pub(crate) fn sift(
     ensures { OfRepeats (IsMarked marks.new next) body.now left }
 {
     let mut rest = body;
+    let mut count = 0usize;
     'names: while let Some((tag, bytes)) = rest.split_first() {
         if bytes.len() < left {
-            return;
+            return count;
         }
         let (name, after) = step(*tag, bytes);
-        mark_kept(sieve, factor, name, words, next, marks);
+        let marked = mark_kept(sieve, factor, name, words, next, marks);
+        count = count.saturating_add(usize::from(marked));
         rest = after;
     }
+    count
 }

@@ -5,52 +5,55 @@ ghost use Rattle.bson_check.specs.Slots.{slot_of, word_of, HasBits, IsMarked};
 
 use crate::table::name_at;
 
+/// Any odd number with bits all over it.
+pub(crate) const FACTOR: u64 = 11400714819323198485;
+
 #[tactic(auto, unfolding(crate::specs::Slots::slot_of))]
-fn slot(factor: u32, name: &[u8]) -> u32
+fn slot(factor: u64, name: &[u8]) -> u64
     ensures { result ≡ slot_of factor name.now }
 {
-    let mut hash = 0u32;
+    let mut hash = 0u64;
     for byte in name {
-        hash = hash.wrapping_add(*byte as u32).wrapping_mul(factor);
+        hash = hash.wrapping_add(u64::from(*byte)).wrapping_mul(factor);
     }
     hash
 }
 
-// The upper 16 bits of a slot say which word, and the next 12 which bits of it.
+// The upper 16 bits of a slot say which word, and the next 12 which bits of it. The lower bits of a product are mixed too little.
 #[tactic(auto, using(std::proofs::lemmas::Nat::and_le_r))]
-fn word(slot: u32, words: usize) -> usize
+fn word(slot: u64, words: usize) -> usize
     requires { 0 < words }
     ensures value { result ≡ word_of words slot }
     ensures within { result < words }
 {
-    (slot / 65536) as usize & (words - 1)
+    (slot / 281474976710656) as usize & (words - 1)
 }
 
-fn has_bits(words: &[u64], slot: u32) -> bool
+fn has_bits(words: &[u64], slot: u64) -> bool
     requires { 0 < length words.now }
     ensures { HasBits words.now slot → IsTrue result }
 {
     let at = word(slot, words.len());
     let word = words[at];
-    if word >> (slot / 1024 % 64) & 1 != 1 {
+    if word >> (slot / 4398046511104 % 64) & 1 != 1 {
         return false;
     }
-    word >> (slot / 16 % 64) & 1 == 1
+    word >> (slot / 68719476736 % 64) & 1 == 1
 }
 
-fn set_bits(words: &mut [u64], slot: u32)
+fn set_bits(words: &mut [u64], slot: u64)
     requires { 0 < length words.old }
     ensures itself { HasBits words.new slot }
     ensures others { (s : ℕ) → HasBits words.old s → HasBits words.new s }
 {
     let at = word(slot, words.len());
-    words[at] |= 1 << (slot / 1024 % 64);
-    words[at] |= 1 << (slot / 16 % 64);
+    words[at] |= 1 << (slot / 4398046511104 % 64);
+    words[at] |= 1 << (slot / 68719476736 % 64);
 }
 
 // Puts the name into the set, and says whether it may have been there.
 #[tactic(auto, unfolding(crate::specs::Slots::IsMarked))]
-pub(crate) fn put(factor: u32, name: &[u8], words: &mut [u64]) -> bool
+pub(crate) fn put(factor: u64, name: &[u8], words: &mut [u64]) -> bool
     requires { 0 < length words.old }
     ensures there { IsMarked words.old factor name.now → IsTrue result }
     ensures itself { IsMarked words.new factor name.now }
@@ -63,7 +66,7 @@ pub(crate) fn put(factor: u32, name: &[u8], words: &mut [u64]) -> bool
 }
 
 // Puts the names of these elements into the set.
-pub(crate) fn mark(factor: u32, body: &[u8], block: &[u32], words: &mut [u64])
+pub(crate) fn mark(factor: u64, body: &[u8], block: &[u32], words: &mut [u64])
     requires { 0 < length words.old }
     ensures { (e : ℕ) → Contains block.now e → IsMarked words.new factor (name_at body.now e) }
 {
@@ -73,7 +76,7 @@ pub(crate) fn mark(factor: u32, body: &[u8], block: &[u32], words: &mut [u64])
 }
 
 #[tactic(auto, unfolding(crate::specs::Slots::IsMarked))]
-pub(crate) fn may_have(factor: u32, words: &[u64], name: &[u8]) -> bool
+pub(crate) fn may_have(factor: u64, words: &[u64], name: &[u8]) -> bool
     requires { 0 < length words.now }
     ensures { IsMarked words.now factor name.now → IsTrue result }
 {

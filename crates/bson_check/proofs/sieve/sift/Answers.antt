@@ -24,10 +24,10 @@ names-preserved c = λ ns to p e.
     let less : length next < length rest = omega (arith, c.step.ensures.fits, ap length c.in-Some.ensures.cases.0) in
     let n : c.step.result.0.now ≡ first_name rest = c.step.ensures.name ∙ sym (ap first_name c.in-Some.ensures.cases.0) in
     let K = IsKept s.every s.factor s.words.now in
-    sifted_on K (IsMarked c.names.words f) (IsMarked c.names.marks g) (IsMarked c.mark_kept.new.words f) (IsMarked c.mark_kept.new.marks g) c.args.body.now ns to rest next (c.requires.kept ns to p e)
-    c.mark_kept.ensures.others c.mark_kept.ensures.marked
-    (subst (λ (x : List ℕ). K x → IsMarked c.mark_kept.new.words f x) n c.mark_kept.ensures.itself)
-    (subst (λ (x : List ℕ). K x → IsMarked c.names.words f x → IsMarked c.mark_kept.new.marks g x) n c.mark_kept.ensures.twice)
+    sifted_on K (IsMarked c.names.words f) (IsMarked c.names.marks g) (IsMarked c.mark_kept-marked.new.words f) (IsMarked c.mark_kept-marked.new.marks g) c.args.body.now ns to rest next (c.requires.kept ns to p e)
+    c.mark_kept-marked.ensures.others c.mark_kept-marked.ensures.marked
+    (subst (λ (x : List ℕ). K x → IsMarked c.mark_kept-marked.new.words f x) n c.mark_kept-marked.ensures.itself)
+    (subst (λ (x : List ℕ). K x → IsMarked c.names.words f x → IsMarked c.mark_kept-marked.new.marks g x) n c.mark_kept-marked.ensures.twice)
     (omega (arith, c.if-bytes-left.false, e, ap length c.in-Some.ensures.cases.0)) is less (c.names.invariant ns to p e)
 
 pub returns : goal.returns
