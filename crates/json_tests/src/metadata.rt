@@ -1,10 +1,10 @@
 //! Worked metadata texts.
 use bson_value::NsName;
-use containers::List as JList;
+use containers::{List as JList, Text};
 use json_text::{parse, print};
 use json_tree::Tree;
 use metadata_text::{MetaFault, metadata_of, metadata_text};
-use std::alloc::Global;
+use std::alloc::{AllocError, Global};
 use std::test::Fail;
 
 #[test]
@@ -77,6 +77,42 @@ fn other_shapes_fail_at_the_end(rt: HostRuntime) -> Result<(), Fail> {
             Err(fault) => assert_eq!(rt; fault, MetaFault::Bad { at }, "{text}"),
             Ok(_) => assert!(rt; false, "{text}"),
         }
+    }
+    Ok(())
+}
+
+// A metadata text whose options hold a number below so many arrays.
+fn deep(alloc: Global, arrays: usize) -> Result<String, AllocError> {
+    let mut text = String::new(alloc);
+    text.push_str("{\"options\":{\"a\":")?;
+    for _ in 0..arrays {
+        text.push('[')?;
+    }
+    text.push('1')?;
+    for _ in 0..arrays {
+        text.push(']')?;
+    }
+    text.push_str("}}")?;
+    Ok(text)
+}
+
+// The options of a text, and the text that is written of them.
+fn again(alloc: Global, text: &str) -> Result<(Tree, Text), Fail> {
+    let (options, defs) = metadata_of(alloc, text)?;
+    let ns = NsName::split(alloc, "a.b")?.ok_or("no name")?;
+    let written = metadata_text(alloc, &ns, &options, &defs)?;
+    Ok((options, written))
+}
+
+#[test]
+fn a_wrapper_can_be_a_level_too_many_for_the_way_back(rt: HostRuntime) -> Result<(), Fail> {
+    let (options, text) = again(rt.alloc(), deep(rt.alloc(), 253)?.as_str())?;
+    let (back, _) = metadata_of(rt.alloc(), text.as_str())?;
+    assert!(rt; back.same(&options));
+    let (_, text) = again(rt.alloc(), deep(rt.alloc(), 254)?.as_str())?;
+    match metadata_of(rt.alloc(), text.as_str()) {
+        Err(fault) => assert_eq!(rt; fault, MetaFault::Bad { at: 270 }),
+        Ok(_) => assert!(rt; false),
     }
     Ok(())
 }
