@@ -10,4 +10,6 @@ pub mod Cutting
 pub mod Again
 pub mod Found
 pub mod Height
+pub mod Sifting
+pub mod Formed
 pub mod Whole

@@ -1,5 +1,5 @@
 -- The search for a repeated name, element after element.
-use Rattle.std.proofs.Common.{◌≡◌, ℕ, ◌<◌, ◌≤◌, ◌⊎◌, inl, inr, Bool, true, false, cond, List, [], ◌∷◌, ◌++◌, length, drop, refl, sym, ap, subst, ◌∙◌, arith}
+use Rattle.std.proofs.Common.{◌≡◌, ℕ, ◌<◌, ◌≤◌, ◌⊎◌, inl, inr, Bool, true, false, cond, List, [], ◌∷◌, ◌++◌, length, drop, refl, sym, ap, subst, ◌∙◌, append_assoc, arith}
 use Rattle.std.specs.Str.{bytes_eq}
 use Rattle.std.proofs.lemmas.Slice.Eq.{bytes_eq-Decides}
 use Rattle.std.specs.Prelude.{Some, None}
@@ -14,9 +14,10 @@ pub record Seen (end : ℕ) (body : List ℕ) (all : List (List ℕ)) (to rest :
   pub so_far : Path seen body rest
   pub path : Path ms rest to
   pub same : repeat_at end [] all body ≡ repeat_at end seen ms rest
+  pub parts : all ≡ seen ++ ms
 
 abbrev pub seen_start : (end : ℕ) (body : List ℕ) (all : List (List ℕ)) (to : List ℕ) → Path all body to → Seen end body all to body
-seen_start end body all to p = record { seen = []; ms = all; so_far = refl; path = p; same = refl }
+seen_start end body all to p = record { seen = []; ms = all; so_far = refl; path = p; same = refl; parts = refl }
 
 pub seen_end : (end : ℕ) (body : List ℕ) (all : List (List ℕ)) (to rest : List ℕ) → length rest ≤ length to → Seen end body all to rest → repeat_at end [] all body ≡ None
 seen_end end body all to rest le s = s.same ∙ none s.ms s.path where
@@ -32,10 +33,10 @@ seen_found end body all to rest lt s h = s.same ∙ found s.ms s.path where
 
 pub seen_on : (end : ℕ) (body : List ℕ) (all : List (List ℕ)) (to rest after : List ℕ) → length to < length rest → length after < length rest → passed rest ≡ after → (s : Seen end body all to rest) → has (first_name rest) s.seen ≡ false
     → (t : Seen end body all to after) × (t.seen ≡ s.seen ++ first_name rest ∷ [])
-seen_on end body all to rest after lt less next s h = go s.ms s.path s.same where
-  go : (ms : List (List ℕ)) → Path ms rest to → repeat_at end [] all body ≡ repeat_at end s.seen ms rest → (t : Seen end body all to after) × (t.seen ≡ s.seen ++ first_name rest ∷ [])
-  go [] p same = absurd (omega (arith, lt, ap length p))
-  go (m ∷ ms) p same =
+seen_on end body all to rest after lt less next s h = go s.ms s.path s.same s.parts where
+  go : (ms : List (List ℕ)) → Path ms rest to → repeat_at end [] all body ≡ repeat_at end s.seen ms rest → all ≡ s.seen ++ ms → (t : Seen end body all to after) × (t.seen ≡ s.seen ++ first_name rest ∷ [])
+  go [] p same parts = absurd (omega (arith, lt, ap length p))
+  go (m ∷ ms) p same parts =
       let e : has m s.seen ≡ false = ap (λ (x : List ℕ). has x s.seen) (sym p.1) ∙ h in (
         record {
           seen = s.seen ++ m ∷ [];
@@ -43,6 +44,7 @@ seen_on end body all to rest after lt less next s h = go s.ms s.path s.same wher
           so_far = path_push s.seen m body rest after s.so_far less p.1 next;
           path = subst (λ (r : List ℕ). Path ms r to) next p.2;
           same = subst (λ (r : List ℕ). repeat_at end [] all body ≡ repeat_at end (s.seen ++ m ∷ []) ms r) next (same ∙ ap (λ (b : Bool). cond b (Some (place end (drop 1 rest))) (repeat_at end (s.seen ++ m ∷ []) ms (passed rest))) e);
+          parts = parts ∙ sym (append_assoc s.seen (m ∷ []) ms);
         },
         ap (λ (x : List ℕ). s.seen ++ x ∷ []) (sym p.1),
       )
@@ -53,7 +55,7 @@ pub not_true : (b : Bool) → (b ≡ true → ⊥) → b ≡ false
 not_true true h = absurd (h refl)
 not_true false h = refl
 
-has_pushed : (n m : List ℕ) (ns : List (List ℕ)) → has n (ns ++ m ∷ []) ≡ true → (has n ns ≡ true) ⊎ (m ≡ n)
+pub has_pushed : (n m : List ℕ) (ns : List (List ℕ)) → has n (ns ++ m ∷ []) ≡ true → (has n ns ≡ true) ⊎ (m ≡ n)
 has_pushed n m [] h = go (bytes_eq m n) refl h where
   go : (b : Bool) → bytes_eq m n ≡ b → cond b true false ≡ true → (has n [] ≡ true) ⊎ (m ≡ n)
   go true e h = inr ((bytes_eq-Decides m n).0 e)

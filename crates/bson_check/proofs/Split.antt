@@ -131,7 +131,7 @@ as_repeat total x o r q e k n = e ∙ ap (λ (p : Option ℕ). answer p (Ok x)) 
 
 -- ---- names without a repeat are distinct
 
-has_first : (n : List ℕ) (seen ms : List (List ℕ)) → has n (seen ++ n ∷ ms) ≡ true
+pub has_first : (n : List ℕ) (seen ms : List (List ℕ)) → has n (seen ++ n ∷ ms) ≡ true
 has_first n [] ms = let e : bytes_eq n n ≡ true = (bytes_eq-Decides n n).1 refl in rw e refl
 has_first n (x ∷ seen) ms = go (bytes_eq x n) (has_first n seen ms) where
   go : (b : Bool) → has n (seen ++ n ∷ ms) ≡ true → cond b true (has n (seen ++ n ∷ ms)) ≡ true

@@ -4,3 +4,4 @@ pub mod Spells
 pub mod Faults
 pub mod Blocks
 pub mod Slots
+pub mod Sieve

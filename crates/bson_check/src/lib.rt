@@ -9,6 +9,7 @@ mod length;
 pub mod parts;
 pub mod passing;
 pub mod repeats;
+mod sieve;
 mod slots;
 mod table;
 

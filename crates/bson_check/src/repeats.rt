@@ -1,11 +1,13 @@
 //! The first name of a document that stands twice.
 ghost use Rattle.std.specs.Prelude.{◌≡◌, ◌<◌, ◌≤◌, [], length, List, ℕ, IfSome};
 ghost use Rattle.bson_check.specs.Passing.{Path, has, is_above, repeat_at, fault_of};
+ghost use Rattle.bson_check.specs.Slots.{IsMarked};
+ghost use Rattle.bson_check.specs.Sieve.{IsKept, OfRepeats};
 
 use crate::blocks::{LONGEST, in_blocks};
 use crate::fault::{BsonFault, BsonKind};
 use crate::passing::step;
-use crate::slots::put;
+use crate::sieve::{Sieve, put_kept, sift};
 use std::cmp::Ordering;
 
 // Whether an element of this name stands in the bytes before the last `left` ones.
@@ -36,12 +38,21 @@ fn is_above(name: &[u8], top: &[u8]) -> bool
 const FACTOR: u32 = 2654435769;
 
 // How many names that weren't there may share their slots with names before them.
-const SHARED: u32 = 16;
+const SHARED: u32 = 2;
 
-// The first name that stands before it too, by its place. It is looked for only where its slot was taken, and the search gives up, with `None`, where that comes too often.
-fn in_slots(end: usize, body: &[u8], left: usize, words: &mut [u64]) -> Option<Option<usize>>
+// The first name that stands before it too, by its place. It is looked for only where the sieve keeps it and its slot was taken, and the search gives up, with `None`, where that comes too often.
+fn in_slots(
+    end: usize,
+    body: &[u8],
+    left: usize,
+    sieve: Sieve<'_>,
+    factor: u32,
+    words: &mut [u64],
+) -> Option<Option<usize>>
     requires fits { length body.now ≤ end }
+    requires some_sieve { 0 < length sieve.words.now }
     requires some_words { 0 < length words.old }
+    requires kept { OfRepeats (IsKept sieve.every sieve.factor sieve.words.now) body.now left }
     ensures { (ns : List (List ℕ)) → (to : List ℕ) → Path ns body.now to → length to ≡ left → IfSome result (λ r. repeat_at end [] ns body.now ≡ r) }
 {
     let mut rest = body;
@@ -51,7 +62,7 @@ fn in_slots(end: usize, body: &[u8], left: usize, words: &mut [u64]) -> Option<O
             return Some(None);
         }
         let (name, next) = step(*tag, bytes);
-        if put(FACTOR, name, words) {
+        if put_kept(sieve, factor, name, words) {
             if was_there(body, bytes.len() + 1, name) {
                 return Some(Some(end - bytes.len()));
             }
@@ -65,50 +76,173 @@ fn in_slots(end: usize, body: &[u8], left: usize, words: &mut [u64]) -> Option<O
     Some(None)
 }
 
-// The longest bodies whose names go into a small and into a large set.
+// Marks the names that the sieve keeps and that may stand twice, and looks among those that are marked.
+fn sifted(
+    end: usize,
+    body: &[u8],
+    left: usize,
+    sieve: Sieve<'_>,
+    factor: u32,
+    words: &mut [u64],
+    marks: &mut [u64],
+) -> Option<Option<usize>>
+    requires fits { length body.now ≤ end }
+    requires some_sieve { 0 < length sieve.words.now }
+    requires some_words { 0 < length words.old }
+    requires some_marks { 0 < length marks.old }
+    requires kept { OfRepeats (IsKept sieve.every sieve.factor sieve.words.now) body.now left }
+    ensures first { (ns : List (List ℕ)) → (to : List ℕ) → Path ns body.now to → length to ≡ left → IfSome result (λ r. repeat_at end [] ns body.now ≡ r) }
+    ensures kept { OfRepeats (IsMarked marks.new factor) body.now left }
+{
+    let other = factor.wrapping_mul(FACTOR);
+    words.fill(0);
+    marks.fill(0);
+    sift(body, left, sieve, other, words, factor, marks);
+    words.fill(0);
+    let next = Sieve {
+        every: false,
+        factor,
+        words: marks,
+    };
+    in_slots(end, body, left, next, other.wrapping_mul(FACTOR), words)
+}
+
+// Rounds of sifting, each with other slots. `None` where three didn't tell.
+fn in_rounds(
+    end: usize,
+    body: &[u8],
+    left: usize,
+    words: &mut [u64],
+    marks: &mut [u64],
+    others: &mut [u64],
+) -> Option<Option<usize>>
+    requires fits { length body.now ≤ end }
+    requires some_words { 0 < length words.old }
+    requires some_marks { 0 < length marks.old }
+    requires some_others { 0 < length others.old }
+    ensures { (ns : List (List ℕ)) → (to : List ℕ) → Path ns body.now to → length to ≡ left → IfSome result (λ r. repeat_at end [] ns body.now ≡ r) }
+{
+    let none = [0u64];
+    let every = Sieve {
+        every: true,
+        factor: FACTOR,
+        words: &none,
+    };
+    let found = sifted(end, body, left, every, 2246822519, words, marks);
+    if found.is_some() {
+        return found;
+    }
+    let first = Sieve {
+        every: false,
+        factor: 2246822519,
+        words: marks,
+    };
+    let found = sifted(end, body, left, first, 3266489917, words, others);
+    if found.is_some() {
+        return found;
+    }
+    let second = Sieve {
+        every: false,
+        factor: 3266489917,
+        words: others,
+    };
+    sifted(end, body, left, second, 668265263, words, marks)
+}
+
+// The longest bodies whose names go into a small and into a large set, and the longest whose names rarely share a slot of the largest set.
 const SMALL: usize = 4096;
 
 const LARGE: usize = 65536;
 
-// Its tables take 3 KiB of the stack.
-#[inline(never)]
-fn in_small(end: usize, body: &[u8], left: usize) -> Option<usize>
+const SPARSE: usize = 524288;
+
+// Looks among all names, and in rounds where too many share their slots.
+fn in_sets(
+    end: usize,
+    body: &[u8],
+    left: usize,
+    words: &mut [u64],
+    marks: &mut [u64],
+    others: &mut [u64],
+) -> Option<Option<usize>>
     requires fits { length body.now ≤ end }
-    requires small { length body.now ≤ LONGEST }
-    ensures { (ns : List (List ℕ)) → (to : List ℕ) → Path ns body.now to → length to ≡ left → repeat_at end [] ns body.now ≡ result }
+    requires some_words { 0 < length words.old }
+    requires some_marks { 0 < length marks.old }
+    requires some_others { 0 < length others.old }
+    ensures { (ns : List (List ℕ)) → (to : List ℕ) → Path ns body.now to → length to ≡ left → IfSome result (λ r. repeat_at end [] ns body.now ≡ r) }
 {
-    let mut words = [0u64; 128];
-    match in_slots(end, body, left, &mut words) {
-        Some(found) => found,
-        None => in_blocks(end, body, left, &mut [0u32; 512], &mut words),
+    if body.len() <= SPARSE {
+        let none = [0u64];
+        let every = Sieve {
+            every: true,
+            factor: FACTOR,
+            words: &none,
+        };
+        let found = in_slots(end, body, left, every, FACTOR, words);
+        if found.is_some() {
+            return found;
+        }
     }
+    in_rounds(end, body, left, words, marks, others)
 }
 
-// Its tables take 192 KiB of the stack, so they stand in a frame of their own.
+// Its sets take 2 KiB of the stack.
 #[inline(never)]
-fn in_large(end: usize, body: &[u8], left: usize) -> Option<usize>
+fn in_small(end: usize, body: &[u8], left: usize) -> Option<Option<usize>>
     requires fits { length body.now ≤ end }
-    requires small { length body.now ≤ LONGEST }
-    ensures { (ns : List (List ℕ)) → (to : List ℕ) → Path ns body.now to → length to ≡ left → repeat_at end [] ns body.now ≡ result }
+    ensures { (ns : List (List ℕ)) → (to : List ℕ) → Path ns body.now to → length to ≡ left → IfSome result (λ r. repeat_at end [] ns body.now ≡ r) }
 {
-    let mut words = [0u64; 8192];
-    match in_slots(end, body, left, &mut words) {
-        Some(found) => found,
-        None => in_blocks(end, body, left, &mut [0u32; 32768], &mut words),
-    }
+    in_sets(end, body, left, &mut [0u64; 128], &mut [0u64; 64], &mut [0u64; 64])
+}
+
+// Its sets take 96 KiB of the stack, so they stand in a frame of their own.
+#[inline(never)]
+fn in_large(end: usize, body: &[u8], left: usize) -> Option<Option<usize>>
+    requires fits { length body.now ≤ end }
+    ensures { (ns : List (List ℕ)) → (to : List ℕ) → Path ns body.now to → length to ≡ left → IfSome result (λ r. repeat_at end [] ns body.now ≡ r) }
+{
+    in_sets(end, body, left, &mut [0u64; 8192], &mut [0u64; 2048], &mut [0u64; 2048])
+}
+
+// Its sets take 768 KiB of the stack.
+#[inline(never)]
+fn in_huge(end: usize, body: &[u8], left: usize) -> Option<Option<usize>>
+    requires fits { length body.now ≤ end }
+    ensures { (ns : List (List ℕ)) → (to : List ℕ) → Path ns body.now to → length to ≡ left → IfSome result (λ r. repeat_at end [] ns body.now ≡ r) }
+{
+    in_sets(end, body, left, &mut [0u64; 65536], &mut [0u64; 16384], &mut [0u64; 16384])
 }
 
 // Its tables take 640 KiB of the stack.
 #[inline(never)]
-fn in_huge(end: usize, body: &[u8], left: usize) -> Option<usize>
+fn sorted(end: usize, body: &[u8], left: usize) -> Option<usize>
     requires fits { length body.now ≤ end }
     requires small { length body.now ≤ LONGEST }
     ensures { (ns : List (List ℕ)) → (to : List ℕ) → Path ns body.now to → length to ≡ left → repeat_at end [] ns body.now ≡ result }
 {
-    let mut words = [0u64; 65536];
-    match in_slots(end, body, left, &mut words) {
-        Some(found) => found,
-        None => in_blocks(end, body, left, &mut [0u32; 32768], &mut words),
+    in_blocks(end, body, left, &mut [0u32; 32768], &mut [0u64; 65536])
+}
+
+// Its tables take 3 KiB of the stack.
+#[inline(never)]
+fn sorted_small(end: usize, body: &[u8], left: usize) -> Option<usize>
+    requires fits { length body.now ≤ end }
+    requires small { length body.now ≤ LONGEST }
+    ensures { (ns : List (List ℕ)) → (to : List ℕ) → Path ns body.now to → length to ≡ left → repeat_at end [] ns body.now ≡ result }
+{
+    in_blocks(end, body, left, &mut [0u32; 512], &mut [0u64; 128])
+}
+
+fn in_any_set(end: usize, body: &[u8], left: usize) -> Option<Option<usize>>
+    requires fits { length body.now ≤ end }
+    ensures { (ns : List (List ℕ)) → (to : List ℕ) → Path ns body.now to → length to ≡ left → IfSome result (λ r. repeat_at end [] ns body.now ≡ r) }
+{
+    if body.len() <= SMALL {
+        in_small(end, body, left)
+    } else if body.len() <= LARGE {
+        in_large(end, body, left)
+    } else {
+        in_huge(end, body, left)
     }
 }
 
@@ -117,12 +251,10 @@ fn in_any_order(end: usize, body: &[u8], left: usize) -> Option<usize>
     requires small { length body.now ≤ LONGEST }
     ensures { (ns : List (List ℕ)) → (to : List ℕ) → Path ns body.now to → length to ≡ left → repeat_at end [] ns body.now ≡ result }
 {
-    if body.len() <= SMALL {
-        in_small(end, body, left)
-    } else if body.len() <= LARGE {
-        in_large(end, body, left)
-    } else {
-        in_huge(end, body, left)
+    match in_any_set(end, body, left) {
+        Some(found) => found,
+        None if body.len() <= SMALL => sorted_small(end, body, left),
+        None => sorted(end, body, left),
     }
 }
 

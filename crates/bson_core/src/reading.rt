@@ -5,6 +5,7 @@ ghost use Rattle.std.specs.List.{position_from};
 ghost use Rattle.bson_check.specs.declared.fault.DecodeFault.TheVariants.{NoMemory};
 ghost use Rattle.bson_check.specs.Spells.{SpellsWithin};
 ghost use Rattle.bson_check.specs.Faults.{IsFault, first_fault};
+ghost use Rattle.bson_value.specs.WellFormed.{IsWellFormed, IsWellFormedDocument};
 ghost use Rattle.bson_value.specs.declared.value.Value.{Value as Datum};
 ghost use Rattle.bson_check.specs.Passing.{count_of, jump};
 ghost use Rattle.bson_check.specs.Reading.{Gives, Reads, read_of, number, int_at, bool_at, text_at, frame_at, Frame, name_at, named, is_type, field_at, item_at, fields_at, items_at, value_at, document_at, array_at, scoped_at, document_of, run_at, long_of, stamp_of, raw_at, binary_at, cut_at, regex_at, pointer_at, scope_at, total_at, Scoped};
@@ -269,7 +270,8 @@ fn whole(alloc: Global, bytes: &[u8], max: usize, depth: usize) -> Result<Doc, D
 
 /// The value of this type that the bytes begin with, whatever its size and depth.
 pub fn decode_value(alloc: Global, tag: u8, bytes: &[u8]) -> Result<Value, DecodeFault>
-    ensures { Gives (λ v. v) result (read_of (value_at (length bytes.now) tag (length bytes.now) bytes.now)) }
+    ensures exact { Gives (λ v. v) result (read_of (value_at (length bytes.now) tag (length bytes.now) bytes.now)) }
+    ensures well_formed { IfOk result (λ v. IsWellFormed v) }
 {
     let (value, _) = value(alloc, bytes.len(), tag, bytes.len(), bytes)?;
     Ok(value)
@@ -283,6 +285,7 @@ pub fn decode(alloc: Global, bytes: &[u8], max: usize, depth: usize) -> Result<D
     ensures only { (fs : List (List ℕ × Datum)) → SpellsWithin max depth bytes.now fs → MatchResult result (λ d. d ≡ fs) (λ e. e ≡ NoMemory) }
     ensures fault { IfErr result (λ e. IsFault e (first_fault max depth bytes.now)) }
     ensures exact { Gives (λ d. d) result (document_of max depth bytes.now) }
+    ensures well_formed { IfOk result (λ d. IsWellFormedDocument d) }
 {
     whole(alloc, bytes, max, depth)
 }

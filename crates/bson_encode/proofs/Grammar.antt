@@ -80,18 +80,18 @@ module _ (D : List ℕ → List (List ℕ × Value) → Type 0) (A : List ℕ �
     (documents : (fs : List (List ℕ × Value)) → IsWellFormedDocument fs → levels_of fs ≤ n → length (document_text fs) < 2 ^ 31 → D (document_text fs) fs)
     (arrays : (vs : List Value) → AreWellFormedItems vs → array_levels vs ≤ n → length (framed (items_of vs)) < 2 ^ 31 → A (framed (items_of vs)) vs) where
   one_spelled : (x : Value-F Value) → IsWellFormedLevel x → IsHeldWellFormed x → levels_at x ≤ n → length (spelling_step (map-Value Value Typed spelling x)).1 < 2 ^ 31 → AreBytesOf D A (spelling_step (map-Value Value Typed spelling x)).1 x
-  one_spelled (Value-F.Double d) k h le small = (k, refl)
+  one_spelled (Value-F.Double d) k h le small = (k.count_is, refl)
   one_spelled (Value-F.Str t) k h le small = string_is t k small
   one_spelled (Value-F.Object fs) k h le small = documents fs (k, h) (omega (arith, le, object_levels fs)) small
   one_spelled (Value-F.Array vs) k h le small = arrays vs h le small
   one_spelled (Value-F.Binary s d) k h le small = (count_bytes (length d), count_is (length d) (omega (arith, small)), refl)
   one_spelled Value-F.Undefined k h le small = refl
-  one_spelled (Value-F.Oid d) k h le small = (k, refl)
+  one_spelled (Value-F.Oid d) k h le small = (k.count_is, refl)
   one_spelled (Value-F.Bool b) k h le small = refl
   one_spelled (Value-F.Date z) k h le small = long_is z k
   one_spelled Value-F.Null k h le small = refl
   one_spelled (Value-F.Regex p o) k h le small = (k.0, k.1, append_assoc (p ++ 0 ∷ []) o (0 ∷ []))
-  one_spelled (Value-F.DbPointer t d) k h le small = (text_bytes t, string_is t k.0 (omega (arith, small, length-append (text_bytes t) d)), k.1, refl)
+  one_spelled (Value-F.DbPointer t d) k h le small = (text_bytes t, string_is t k.0 (omega (arith, small, length-append (text_bytes t) d)), k.1.count_is, refl)
   one_spelled (Value-F.Code t) k h le small = string_is t k small
   one_spelled (Value-F.Symbol t) k h le small = string_is t k small
   one_spelled (Value-F.ScopedCode t fs) k h le small =
@@ -109,7 +109,7 @@ module _ (D : List ℕ → List (List ℕ × Value) → Type 0) (A : List ℕ �
   one_spelled (Value-F.Int z) k h le small = int_is z k
   one_spelled (Value-F.Stamp s) k h le small = (to_le_bytes w32 s.inc, to_le_bytes w32 s.secs, word_is s.inc k.1, word_is s.secs k.0, refl)
   one_spelled (Value-F.Long z) k h le small = long_is z k
-  one_spelled (Value-F.Decimal d) k h le small = (k, refl)
+  one_spelled (Value-F.Decimal d) k h le small = (k.count_is, refl)
   one_spelled Value-F.MinKey k h le small = refl
   one_spelled Value-F.MaxKey k h le small = refl
 

@@ -5,30 +5,21 @@ use Rattle.std.specs.Int.{w32, w64, from_le_bytes, to_le_bytes, cast_unsigned}
 use Rattle.std.specs.Fmt.{decimal}
 use Rattle.std.proofs.lemmas.Int.{of_z-to_z}
 use Rattle.std.proofs.lemmas.Nat.{le_bytes_4, le_bytes_8}
-use Rattle.std.proofs.lemmas.List.{get_or-append-add, length-append}
+use Rattle.std.proofs.lemmas.List.{length-append}
 use Rattle.bson_value.specs.Spelling.{Typed, count_bytes, document_text, element, elements_of, framed, items_of, numbered, spelled, spelling, spelling_step, tag_of, text_bytes}
 use Rattle.bson_value.specs.declared.value.Value.{Value, out-Value, map-Value}
 use Rattle.bson_value.specs.declared.value.Value.TheOpen.{Value-F}
 use Rattle.bson_check.specs.Spells.{IsCount, IsSigned, IsString, IsFrame, type_byte, AreBytesOf, AreFields}
-use Rattle.bson_encode.specs.Numbered.{AreBytes, AreNumberedItems, IsNumberedDocument, IsNumberedArray, OneNumberedSpelling, NumberedSpelling}
+use Rattle.bson_encode.specs.Numbered.{AreNumberedItems, IsNumberedDocument, IsNumberedArray, OneNumberedSpelling, NumberedSpelling}
 use Rattle.bson_value.specs.Levels.{largest, levels_in, levels_of}
-use Rattle.bson_value.specs.WellFormed.{AreWellFormedItems, IsWellFormedDocument}
+use Rattle.bson_check.proofs.Formed.{word_small}
+use Rattle.bson_value.proofs.Runs.{back_bytes, front_bytes}
+use Rattle.bson_value.specs.WellFormed.{AreBytes, AreWellFormedItems, IsWellFormedDocument}
 use Rattle.bson_check.proofs.Height.{array_levels}
 use Rattle.bson_encode.proofs.Grammar.{spelling_out, tag_is, frame_is, framed_len, element_is, fields_spelled, value_spelled}
 
-pub back_bytes : (a b : List ℕ) → AreBytes (a ++ b) → AreBytes b
-back_bytes a b h i = omega (arith, h (length a + i), get_or-append-add a b i 0)
-
-pub front_bytes : (a b : List ℕ) → AreBytes (a ++ b) → AreBytes a
-front_bytes [] b h i = omega arith
-front_bytes (x ∷ a) b h zero = h 0
-front_bytes (x ∷ a) b h (suc i) = front_bytes a b (λ j. h (suc j)) i
-
 word_back : (c : List ℕ) (n : ℕ) → AreBytes c → IsCount c n → c ≡ to_le_bytes w32 n
 word_back c n h k = sym (le_bytes_4 c n k.four h (sym k.value))
-
-word_small : (c : List ℕ) (n : ℕ) → AreBytes c → IsCount c n → n < 2 ^ 32
-word_small c n h k = omega (arith, k.value, h 0, h 1, h 2, h 3)
 
 count_back : (c : List ℕ) (n : ℕ) → AreBytes c → IsCount c n → c ≡ count_bytes n
 count_back c n h k =

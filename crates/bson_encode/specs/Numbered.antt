@@ -1,13 +1,10 @@
 -- The spellings of documents whose arrays have the names "0", "1" and so on, at every level.
-use Rattle.std.specs.Prelude.{◌≡◌, ℕ, zero, suc, ◌+◌, ◌<◌, ◌^◌, List, [], ◌∷◌, ◌++◌, length, slice_index}
+use Rattle.std.specs.Prelude.{◌≡◌, ℕ, zero, suc, ◌+◌, ◌<◌, ◌^◌, List, [], ◌∷◌, ◌++◌, length}
 use Rattle.std.specs.Fmt.{decimal}
 use Rattle.bson_value.specs.declared.value.Value.{Value, out-Value}
 use Rattle.bson_value.specs.Spelling.{document_text}
-use Rattle.bson_value.specs.WellFormed.{IsWellFormedDocument}
+use Rattle.bson_value.specs.WellFormed.{AreBytes, IsWellFormedDocument}
 use Rattle.bson_check.specs.Spells.{IsFrame, type_byte, AreBytesOf, AreFields}
-
-abbrev pub AreBytes : List ℕ → Type 0
-AreBytes bytes = (i : ℕ) → slice_index bytes i < 256
 
 -- the elements of an array, named from this number on; V says which bytes are a value
 abbrev pub AreNumberedItems : (List ℕ → Value → Type 0) → ℕ → List ℕ → List Value → Type 0

@@ -4,7 +4,7 @@ ghost use Rattle.std.specs.Str.{is_utf8};
 ghost use Rattle.std.specs.List.{AllByRecursion};
 ghost use Rattle.bson_check.specs.Spells.{IsName, Spells};
 ghost use Rattle.bson_encode.specs.Key.{key_of};
-ghost use Rattle.bson_value.specs.WellFormed.{IsWellFormed, AreWellFormedItems, AreWellFormedFields, IsWellFormedDocument};
+ghost use Rattle.bson_value.specs.WellFormed.{AreBytes, IsWellFormed, AreWellFormedItems, AreWellFormedFields, IsWellFormedDocument};
 ghost use Rattle.bson_value.specs.Spelling.{spelling, tag_of, spelled, typed_fields, numbered, counted, text_bytes, elements_of, items_of, element, count_bytes, framed, document_text};
 
 use bson_value::{Bytes, CText, Doc, Text, Value, type_byte};
@@ -56,8 +56,17 @@ fn put_name(out: &mut Vec<u8>, name: &CText) -> Result<(), AllocError>
     Ok(())
 }
 
+fn put_run(out: &mut Vec<u8>, run: &[u8]) -> Result<(), AllocError>
+    ensures bytes { OnOk result (out.new.items ≡ out.old.items ++ run.now) }
+    ensures are_bytes { AreBytes run.now }
+{
+    out.extend_from_slice(run)?;
+    Ok(())
+}
+
 fn put_binary(out: &mut Vec<u8>, subtype: u8, bytes: &[u8]) -> Result<(), AllocError>
-    ensures { OnOk result (out.new.items ≡ out.old.items ++ count_bytes (length bytes.now) ++ subtype ∷ bytes.now) }
+    ensures are_bytes { AreBytes bytes.now }
+    ensures bytes { OnOk result (out.new.items ≡ out.old.items ++ count_bytes (length bytes.now) ++ subtype ∷ bytes.now) }
 {
     let count = (bytes.len() as u64 % 4294967296) as u32;
     out.extend_from_slice(&count.to_le_bytes())?;
@@ -102,19 +111,13 @@ fn put_value(out: &mut Vec<u8>, value: &Value) -> Result<(), AllocError>
     ensures well_formed { OnOk result (IsWellFormed value.now) }
 {
     match value {
-        Value::Double(d) => {
-            out.extend_from_slice(d)?;
-            Ok(())
-        }
+        Value::Double(d) => put_run(out, d),
         Value::Str(text) => put_text(out, text),
         Value::Object(doc) => put_document(out, doc),
         Value::Array(items) => put_array(out, items.as_slice()),
         Value::Binary { subtype, bytes } => put_binary(out, *subtype, bytes.as_slice()),
         Value::Undefined => Ok(()),
-        Value::Oid(id) => {
-            out.extend_from_slice(id)?;
-            Ok(())
-        }
+        Value::Oid(id) => put_run(out, id),
         Value::Bool(b) => {
             out.push(if *b { 1 } else { 0 })?;
             Ok(())
@@ -130,8 +133,7 @@ fn put_value(out: &mut Vec<u8>, value: &Value) -> Result<(), AllocError>
         }
         Value::DbPointer { ns, id } => {
             put_text(out, ns)?;
-            out.extend_from_slice(id)?;
-            Ok(())
+            put_run(out, id)
         }
         Value::Code(text) => put_text(out, text),
         Value::Symbol(text) => put_text(out, text),
@@ -149,10 +151,7 @@ fn put_value(out: &mut Vec<u8>, value: &Value) -> Result<(), AllocError>
             out.extend_from_slice(&n.to_le_bytes())?;
             Ok(())
         }
-        Value::Decimal(d) => {
-            out.extend_from_slice(d)?;
-            Ok(())
-        }
+        Value::Decimal(d) => put_run(out, d),
         Value::MinKey => Ok(()),
         Value::MaxKey => Ok(()),
     }

@@ -2,6 +2,7 @@ pub mod Depth
 pub mod Digits
 pub mod Child
 pub mod Alike
+pub mod Runs
 pub mod WellFormed
 pub mod Indexes
 pub mod Ordered

@@ -8,7 +8,7 @@ use Rattle.std.specs.List.{AllByRecursion}
 use Rattle.bson_value.specs.declared.value.Value.{Value, Value-F, out-Value, roll-Value, map-Value, every_here-Value, every_held-Value, every_made-Value}
 use Rattle.bson_value.specs.declared.value.Ts.{Ts}
 use Rattle.bson_value.specs.declared.value.Value.TheVariants.{Double, Str, Object, Array, Binary, Undefined, Oid, Bool, Date, Null, Regex, DbPointer, Code, Symbol, ScopedCode, Int, Stamp, Long, Decimal, MinKey, MaxKey, rolls-Null, rolls-Int, rolls-Bool, rolls-Str, rolls-Object, rolls-Array, rolls-Undefined, rolls-Code, rolls-Symbol, rolls-MinKey, rolls-MaxKey, rolls-Double, rolls-Oid, rolls-Decimal, rolls-Date, rolls-Long, rolls-Binary, rolls-Regex, rolls-DbPointer, rolls-Stamp, rolls-ScopedCode}
-use Rattle.bson_value.specs.WellFormed.{IsName, IsWellFormedLevel, IsWellFormed, AreWellFormedItems, AreWellFormedFields, IsWellFormedDocument}
+use Rattle.bson_value.specs.WellFormed.{IsName, AreBytes, IsRun, IsWellFormedLevel, IsWellFormed, AreWellFormedItems, AreWellFormedFields, IsWellFormedDocument}
 
 -- what one level holds is well-formed
 abbrev pub IsHeldWellFormed : Value-F Value → Type 0
@@ -81,11 +81,14 @@ with_held (Value-F.Decimal d) h = (Value-F.Decimal d, refl)
 with_held Value-F.MinKey h = (Value-F.MinKey, refl)
 with_held Value-F.MaxKey h = (Value-F.MaxKey, refl)
 
-formed_one : (x : Value-F Value) → IsWellFormedLevel x → IsHeldWellFormed x → IsWellFormed (roll-Value x)
+pub formed_one : (x : Value-F Value) → IsWellFormedLevel x → IsHeldWellFormed x → IsWellFormed (roll-Value x)
 formed_one x k h = let y = with_held x h in every_made-Value IsWellFormedLevel x y.0 y.1 k
 
-pub formed_double : (d : List ℕ) → length d ≡ 8 → IsWellFormed (Double d)
-formed_double d k = subst IsWellFormed (rolls-Double d) (formed_one (Value-F.Double d) k tt)
+run : (n : ℕ) (d : List ℕ) → length d ≡ n → AreBytes d → IsRun n d
+run n d k b = record { count_is = k; are_bytes = b }
+
+pub formed_double : (d : List ℕ) → length d ≡ 8 → AreBytes d → IsWellFormed (Double d)
+formed_double d k b = subst IsWellFormed (rolls-Double d) (formed_one (Value-F.Double d) (run 8 d k b) tt)
 
 pub formed_str : (t : List ℕ) → is_utf8 t ≡ true → IsWellFormed (Str t)
 formed_str t k = subst IsWellFormed (rolls-Str t) (formed_one (Value-F.Str t) k tt)
@@ -96,14 +99,14 @@ formed_object fs k = subst IsWellFormed (rolls-Object fs) (formed_one (Value-F.O
 pub formed_array : (vs : List Value) → AreWellFormedItems vs → IsWellFormed (Array vs)
 formed_array vs k = subst IsWellFormed (rolls-Array vs) (formed_one (Value-F.Array vs) tt k)
 
-pub formed_binary : (s : ℕ) (d : List ℕ) → s < 256 → IsWellFormed (Binary s d)
-formed_binary s d k = subst IsWellFormed (rolls-Binary s d) (formed_one (Value-F.Binary s d) k tt)
+pub formed_binary : (s : ℕ) (d : List ℕ) → s < 256 → AreBytes d → IsWellFormed (Binary s d)
+formed_binary s d k b = subst IsWellFormed (rolls-Binary s d) (formed_one (Value-F.Binary s d) (k, b) tt)
 
 pub formed_undefined : IsWellFormed Undefined
 formed_undefined = subst IsWellFormed rolls-Undefined (formed_one Value-F.Undefined tt tt)
 
-pub formed_oid : (d : List ℕ) → length d ≡ 12 → IsWellFormed (Oid d)
-formed_oid d k = subst IsWellFormed (rolls-Oid d) (formed_one (Value-F.Oid d) k tt)
+pub formed_oid : (d : List ℕ) → length d ≡ 12 → AreBytes d → IsWellFormed (Oid d)
+formed_oid d k b = subst IsWellFormed (rolls-Oid d) (formed_one (Value-F.Oid d) (run 12 d k b) tt)
 
 pub formed_bool : (b : Truth) → IsWellFormed (Bool b)
 formed_bool b = subst IsWellFormed (rolls-Bool b) (formed_one (Value-F.Bool b) tt tt)
@@ -117,8 +120,8 @@ formed_null = subst IsWellFormed rolls-Null (formed_one Value-F.Null tt tt)
 pub formed_regex : (p o : List ℕ) → IsName p → IsName o → IsWellFormed (Regex p o)
 formed_regex p o k l = subst IsWellFormed (rolls-Regex p o) (formed_one (Value-F.Regex p o) (k, l) tt)
 
-pub formed_pointer : (t d : List ℕ) → is_utf8 t ≡ true → length d ≡ 12 → IsWellFormed (DbPointer t d)
-formed_pointer t d k l = subst IsWellFormed (rolls-DbPointer t d) (formed_one (Value-F.DbPointer t d) (k, l) tt)
+pub formed_pointer : (t d : List ℕ) → is_utf8 t ≡ true → length d ≡ 12 → AreBytes d → IsWellFormed (DbPointer t d)
+formed_pointer t d k l b = subst IsWellFormed (rolls-DbPointer t d) (formed_one (Value-F.DbPointer t d) (k, run 12 d l b) tt)
 
 pub formed_code : (t : List ℕ) → is_utf8 t ≡ true → IsWellFormed (Code t)
 formed_code t k = subst IsWellFormed (rolls-Code t) (formed_one (Value-F.Code t) k tt)
@@ -138,8 +141,8 @@ formed_stamp s k l = subst IsWellFormed (rolls-Stamp s) (formed_one (Value-F.Sta
 pub formed_long : (z : ℤ) → FitsSigned w64 z → IsWellFormed (Long z)
 formed_long z k = subst IsWellFormed (rolls-Long z) (formed_one (Value-F.Long z) k tt)
 
-pub formed_decimal : (d : List ℕ) → length d ≡ 16 → IsWellFormed (Decimal d)
-formed_decimal d k = subst IsWellFormed (rolls-Decimal d) (formed_one (Value-F.Decimal d) k tt)
+pub formed_decimal : (d : List ℕ) → length d ≡ 16 → AreBytes d → IsWellFormed (Decimal d)
+formed_decimal d k b = subst IsWellFormed (rolls-Decimal d) (formed_one (Value-F.Decimal d) (run 16 d k b) tt)
 
 pub formed_min : IsWellFormed MinKey
 formed_min = subst IsWellFormed rolls-MinKey (formed_one Value-F.MinKey tt tt)

@@ -2,7 +2,7 @@
 ghost use Rattle.std.specs.Prelude.{◌≡◌, ◌<◌, ◌^◌, true};
 ghost use Rattle.std.specs.Str.{is_utf8};
 ghost use Rattle.std.specs.List.{AllByRecursion};
-ghost use Rattle.bson_value.specs.WellFormed.{IsName, IsWellFormed, AreWellFormedItems, AreWellFormedFields, IsWellFormedDocument};
+ghost use Rattle.bson_value.specs.WellFormed.{IsName, AreBytes, IsWellFormed, AreWellFormedItems, AreWellFormedFields, IsWellFormedDocument};
 
 use crate::fields::Fields;
 use crate::value::{Ts, Value};
@@ -20,6 +20,10 @@ fn name(name: &CText)
     let _ = name.as_str();
 }
 
+fn are_bytes(bytes: &[u8])
+    ensures { AreBytes bytes.now }
+{}
+
 fn stamp(ts: Ts)
     ensures { (ts.secs < 2 ^ 32) × (ts.inc < 2 ^ 32) }
 {
@@ -35,21 +39,16 @@ impl Value {
         ensures { IsWellFormed self.now }
     {
         match self {
-            Value::Double(bits) => {
-                let _bits: &[u8] = bits;
-            }
-            Value::Oid(id) => {
-                let _id: &[u8] = id;
-            }
-            Value::Decimal(bits) => {
-                let _bits: &[u8] = bits;
-            }
+            Value::Double(bits) => are_bytes(bits),
+            Value::Oid(id) => are_bytes(id),
+            Value::Decimal(bits) => are_bytes(bits),
             Value::Undefined | Value::Bool(_) | Value::Null | Value::MinKey | Value::MaxKey => {}
             Value::Str(t) | Value::Code(t) | Value::Symbol(t) => text(t),
             Value::Object(doc) => doc.is_well_formed(),
             Value::Array(vs) => items(vs.as_slice()),
-            Value::Binary { subtype, .. } => {
+            Value::Binary { subtype, bytes } => {
                 let _subtype = *subtype;
+                are_bytes(bytes.as_slice());
             }
             Value::Date(n) | Value::Long(n) => {
                 let _n = *n;
@@ -60,7 +59,7 @@ impl Value {
             }
             Value::DbPointer { ns, id } => {
                 text(ns);
-                let _id: &[u8] = id;
+                are_bytes(id);
             }
             Value::ScopedCode { code, scope } => {
                 text(code);

@@ -1,30 +1,21 @@
 -- A value that holds no document and no array has one spelling.
-use Rattle.std.proofs.Common.{◌≡◌, ℕ, zero, suc, ◌+◌, ◌%◌, ◌<◌, ◌^◌, List, [], ◌∷◌, ◌++◌, length, refl, sym, ap, subst, ◌∙◌, append_assoc, arith}
+use Rattle.std.proofs.Common.{◌≡◌, ℕ, ◌+◌, ◌%◌, ◌<◌, ◌^◌, List, [], ◌∷◌, ◌++◌, length, refl, sym, ap, subst, ◌∙◌, append_assoc, arith}
 use Rattle.std.specs.Prelude.{ℤ}
 use Rattle.std.specs.Int.{w32, w64, from_le_bytes, to_le_bytes, cast_unsigned}
 use Rattle.std.proofs.lemmas.Int.{of_z-to_z}
 use Rattle.std.proofs.lemmas.Nat.{le_bytes_4, le_bytes_8}
-use Rattle.std.proofs.lemmas.List.{get_or-append-add}
 use Rattle.bson_value.specs.Spelling.{Typed, count_bytes, text_bytes, spelling, spelling_step}
 use Rattle.bson_value.specs.declared.value.Value.{Value, out-Value, map-Value}
 use Rattle.bson_value.specs.declared.value.Value.TheOpen.{Value-F}
 use Rattle.bson_check.specs.Spells.{IsCount, IsSigned, IsString, AreBytesOf, IsDocument, IsArray}
 use Rattle.bson_encode.proofs.Grammar.{spelling_out}
-use Rattle.bson_view.specs.Meaning.{AreBytes, IsLeaf, LeafSpelledOnce}
-
-back_bytes : (a b : List ℕ) → AreBytes (a ++ b) → AreBytes b
-back_bytes a b h i = omega (arith, h (length a + i), get_or-append-add a b i 0)
-
-front_bytes : (a b : List ℕ) → AreBytes (a ++ b) → AreBytes a
-front_bytes [] b h i = omega arith
-front_bytes (x ∷ a) b h zero = h 0
-front_bytes (x ∷ a) b h (suc i) = front_bytes a b (λ j. h (suc j)) i
+use Rattle.bson_check.proofs.Formed.{word_small}
+use Rattle.bson_value.proofs.Runs.{back_bytes, front_bytes}
+use Rattle.bson_value.specs.WellFormed.{AreBytes}
+use Rattle.bson_view.specs.Meaning.{IsLeaf, LeafSpelledOnce}
 
 word_back : (c : List ℕ) (n : ℕ) → AreBytes c → IsCount c n → c ≡ to_le_bytes w32 n
 word_back c n h k = sym (le_bytes_4 c n k.four h (sym k.value))
-
-word_small : (c : List ℕ) (n : ℕ) → AreBytes c → IsCount c n → n < 2 ^ 32
-word_small c n h k = omega (arith, k.value, h 0, h 1, h 2, h 3)
 
 count_back : (c : List ℕ) (n : ℕ) → AreBytes c → IsCount c n → c ≡ count_bytes n
 count_back c n h k =

@@ -6,7 +6,8 @@ use Rattle.bson_value.specs.declared.value.Value.{Value, out-Value}
 use Rattle.bson_value.specs.declared.value.Value.TheOpen.{Value-F}
 use Rattle.bson_check.specs.Passing.{jump}
 use Rattle.bson_check.specs.Spells.{IsString, AreBytesOf, IsDocument, IsArray, type_byte}
-use Rattle.bson_view.specs.Meaning.{AreBytes, is_value, value_in}
+use Rattle.bson_value.specs.WellFormed.{AreBytes}
+use Rattle.bson_view.specs.Meaning.{is_value, value_in}
 use Rattle.bson_view.specs.Parts.{bytes_of, elements_in, AreScopedParts, HasElements}
 use Rattle.bson_view.proofs.Jumps.{jump_over}
 use Rattle.bson_view.proofs.Leaves.{string_back}

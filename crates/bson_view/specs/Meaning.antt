@@ -1,7 +1,8 @@
 -- The document that bytes spell, and the value that bytes of a type spell, whatever their size.
 -- Each level takes bytes of its own, so reading with as many levels as there are bytes refuses none for its depth.
-use Rattle.std.specs.Prelude.{◌≡◌, ◌<◌, ℕ, Bool, true, false, List, [], ◌∷◌, length, slice_index, Result, Ok, Err, is_ok}
+use Rattle.std.specs.Prelude.{◌≡◌, ℕ, Bool, true, false, List, [], ◌∷◌, length, Result, Ok, Err, is_ok}
 use Rattle.bson_value.specs.Spelling.{spelled}
+use Rattle.bson_value.specs.WellFormed.{AreBytes}
 use Rattle.bson_value.specs.declared.value.Value.{Value, out-Value, Null}
 use Rattle.bson_value.specs.declared.value.Value.TheOpen.{Value-F}
 use Rattle.bson_check.specs.declared.fault.BsonFault.{BsonFault}
@@ -48,10 +49,6 @@ is_value tag bytes = ends (read_value tag bytes)
 -- the value of this type that the bytes spell
 unfoldable pub value_in : ℕ → List ℕ → Value
 value_in tag bytes = read_as (read_value tag bytes)
-
--- numbers of eight bits; past the end of the list it reads a zero
-abbrev pub AreBytes : List ℕ → Type 0
-AreBytes bytes = (i : ℕ) → slice_index bytes i < 256
 
 -- a value that holds no document and no array
 abbrev pub IsLeaf : Value-F Value → Type 0

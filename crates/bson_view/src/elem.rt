@@ -2,7 +2,8 @@
 ghost use Rattle.std.specs.Prelude.{◌≡◌, ◌<◌, ◌^◌, length, Some, IfOk, IfSome, IsTrue, option_map};
 ghost use Rattle.bson_value.specs.declared.value.Value.{out-Value};
 ghost use Rattle.bson_value.specs.Spelling.{spelled, tag_of};
-ghost use Rattle.bson_view.specs.Meaning.{is_value, AreBytes, AreValue, IsLeaf};
+ghost use Rattle.bson_view.specs.Meaning.{is_value, AreValue, IsLeaf};
+ghost use Rattle.bson_value.specs.WellFormed.{AreBytes};
 
 use crate::elements::Elements;
 use crate::view::View;

@@ -1,5 +1,5 @@
 //! A `Vec` that contracts see as the list of its elements.
-ghost use Rattle.std.specs.Prelude.{◌≡◌, [], ◌∷◌, ◌++◌, ◌<◌, ◌↔◌, length, take, ◌≤◌, slice_get, slice_set, insert, remove, IsTrue, MatchOption, IfOk, OnOk, OnErr};
+ghost use Rattle.std.specs.Prelude.{◌≡◌, [], ◌∷◌, ◌++◌, ◌<◌, ◌↔◌, length, take, ◌≤◌, slice_get, slice_set, insert, remove, IsTrue, IfOk, OnOk, OnErr};
 ghost use Rattle.std.specs.List.Retain.{IsFiltered};
 ghost use Rattle.std.specs.Fn.{CalledAt};
 ghost use Rattle.std.specs.Option.{option_copied};
@@ -95,12 +95,6 @@ impl<T> List<T> {
         ensures value { slice_get self.old at ≡ Some result.now }
     {
         &mut self.items[at]
-    }
-
-    pub fn pop(&mut self) -> Option<T>
-        ensures { MatchOption result ((self.old ≡ []) × (self.new ≡ [])) (λ last. self.old ≡ self.new ++ last ∷ []) }
-    {
-        self.items.pop()
     }
 
     /// Puts the value in the place of the one at `at`, and hands that one back.

@@ -10,3 +10,5 @@ pub mod Decimals
 pub mod Once
 pub mod Unwrapped
 pub mod Shallow
+pub mod Deeper
+pub mod Formed

@@ -20,16 +20,16 @@ use Rattle.extjson.proofs.Wrapping.{wrapped_null, wrapped_bool, wrapped_number, 
 
 -- ---- numbers
 
-data Plain (t : List ℕ) : Type 0 where
+pub data Plain (t : List ℕ) : Type 0 where
   an_int : (z : ℤ) → number_tree t ≡ int_tree z → Plain t
   a_long : (z : ℤ) → number_tree t ≡ long_tree z → Plain t
   as_it_is : number_tree t ≡ trees.Number t → Plain t
 
-not_whole : (t : List ℕ) → is_whole t ≡ false → number_tree t ≡ trees.Number t
+pub not_whole : (t : List ℕ) → is_whole t ≡ false → number_tree t ≡ trees.Number t
 unfolding number_tree plain_value
 not_whole t h = rw h refl
 
-too_far : (t : List ℕ) → is_whole t ≡ true → None ≡ in_range 2147483648 (whole_number t) → None ≡ in_range 9223372036854775808 (whole_number t) → number_tree t ≡ trees.Number t
+pub too_far : (t : List ℕ) → is_whole t ≡ true → None ≡ in_range 2147483648 (whole_number t) → None ≡ in_range 9223372036854775808 (whole_number t) → number_tree t ≡ trees.Number t
 unfolding number_tree plain_value whole_value
 too_far t h q r = rw (h, ← q, ← r) refl
 
@@ -38,7 +38,7 @@ by_range t h (Some n) b q r = an_int _ (number_int t n h q)
 by_range t h None (Some n) q r = a_long _ (number_long t n h q r)
 by_range t h None None q r = as_it_is (too_far t h q r)
 
-plain : (t : List ℕ) → Plain t
+pub plain : (t : List ℕ) → Plain t
 plain t = elim (cases_Bool (is_whole t)) [ inl h ↦ by_range t h _ _ refl refl | inr h ↦ as_it_is (not_whole t h) ]
 
 -- a wrapper of a string whose name isn't one of those with plain numbers

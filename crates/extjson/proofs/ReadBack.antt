@@ -25,7 +25,8 @@ use Rattle.extjson.specs.Numbers.{is_natural, is_whole, whole_number, in_range, 
 use Rattle.extjson.specs.Trees.{wrapped, hex_text, one, minus_one, double_tree, decimal_tree, binary_tree, undefined_tree, oid_tree, int_tree, long_tree, date_tree, regex_tree, pointer_tree, code_tree, scoped_tree, symbol_tree, stamp_tree, min_tree, max_tree}
 use Rattle.extjson.specs.Wrappers.{wrapper_of, outermost_names}
 use Rattle.extjson.specs.Values.{Read, ◌>>=◌, string_of, number_of, true_of, members_of, only, both, without_zero, whole, ranged, counted, or_bad, hex_of, base64_of, subtype_of, first_byte, int_value, long_of, long_value, double_value, double_bits_value, decimal_bits_value, binary_value, undefined_value, id_of, oid_value, date_value, regex_value, pointer_value, code_value, symbol_value, stamp_value, key_value, wrapped_value, has_wrapper, value_of}
-use Rattle.extjson.specs.RoundTrip.{IsRun, HasNoZero}
+use Rattle.bson_value.specs.WellFormed.{IsRun}
+use Rattle.extjson.specs.RoundTrip.{HasNoZero}
 use Rattle.extjson.proofs.TreeParts.{value_object, wrapper_object, wrapper_one, wrapper_two, scoped_is}
 use Rattle.extjson.proofs.Wholes.{own, natural_all, range_some, fits_within, zero_free}
 
@@ -257,10 +258,10 @@ hex_back n b h =
     let len : length (encode_lower b) ≡ 2 * length b = length-encode_with lower_digits b in
     let even : eqb (length (encode_lower b) % 2) 1 ≡ false = ne_eqb (length (encode_lower b) % 2) 1 (λ e. omega (arith, len, e)) in
     let half : eqb (length (encode_lower b) / 2) n ≡ true = eq-eqb (length (encode_lower b) / 2) n (omega (arith, len, h.count_is)) in
-    rw (even, half, decode_pairs-encode_with lower_digits IsDigits-lower_digits 0 b h.bytes) refl
+    rw (even, half, decode_pairs-encode_with lower_digits IsDigits-lower_digits 0 b h.are_bytes) refl
 
 run_reversed : (n : ℕ) (b : List ℕ) → IsRun n b → IsRun n (reverse b)
-run_reversed n b h = record { count_is = length-reverse b ∙ h.count_is; bytes = λ i. reversed_at b h.bytes i }
+run_reversed n b h = record { count_is = length-reverse b ∙ h.count_is; are_bytes = λ i. reversed_at b h.are_bytes i }
   where
     reversed_at : (b : List ℕ) → IsBytes b → (i : ℕ) → get_or (reverse b) i 0 < 256
     reversed_at b h i =
@@ -307,7 +308,7 @@ pointer_back t d h =
     ∙ rw (members_is inner, both_is (codes "$ref") (codes "$id") (trees.Str t) (trees.Object id), string_is t, members_is id, only_is (codes "$oid") (hex_text d), id_is d h) refl
 
 one_byte : (s : ℕ) → s < 256 → IsRun 1 (s ∷ [])
-one_byte s lt = record { count_is = refl; bytes = λ i. at i }
+one_byte s lt = record { count_is = refl; are_bytes = λ i. at i }
   where
     at : (i : ℕ) → get_or (s ∷ []) i 0 < 256
     at zero = lt

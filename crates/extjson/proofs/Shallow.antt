@@ -13,10 +13,10 @@ use Rattle.extjson.specs.Levels.{TreesAreShallow}
 
 -- ---- levels by the kind of tree
 
-of_str : (t : List ℕ) → levels_of (trees.Str t) ≡ 0
+pub of_str : (t : List ℕ) → levels_of (trees.Str t) ≡ 0
 of_str t = ap levels_of (sym (trees.rolls-Str t)) ∙ levels_roll (Tree-F.Str t)
 
-of_number : (t : List ℕ) → levels_of (trees.Number t) ≡ 0
+pub of_number : (t : List ℕ) → levels_of (trees.Number t) ≡ 0
 of_number t = ap levels_of (sym (trees.rolls-Number t)) ∙ levels_roll (Tree-F.Number t)
 
 of_bool : (b : Truth) → levels_of (trees.Bool b) ≡ 0
@@ -25,19 +25,19 @@ of_bool b = ap levels_of (sym (trees.rolls-Bool b)) ∙ levels_roll (Tree-F.Bool
 of_null : levels_of trees.Null ≡ 0
 of_null = ap levels_of (sym trees.rolls-Null) ∙ levels_roll Tree-F.Null
 
-of_items : (ts : List Tree) → levels_of (trees.Items ts) ≡ suc (items_levels ts)
+pub of_items : (ts : List Tree) → levels_of (trees.Items ts) ≡ suc (items_levels ts)
 of_items ts = ap levels_of (sym (trees.rolls-Items ts)) ∙ levels_roll (Tree-F.Items ts)
 
-of_object : (es : List (List ℕ × Tree)) → levels_of (trees.Object es) ≡ suc (field_levels es)
+pub of_object : (es : List (List ℕ × Tree)) → levels_of (trees.Object es) ≡ suc (field_levels es)
 of_object es = ap levels_of (sym (trees.rolls-Object es)) ∙ (levels_roll (Tree-F.Object es) ∙ ap (λ (n : ℕ). suc n) (fields_same es))
 
-wrap_le : (n : ℕ) (name : List ℕ) (t : Tree) → levels_of t ≤ n → levels_of (wrapped name t) ≤ n + 1
+pub wrap_le : (n : ℕ) (name : List ℕ) (t : Tree) → levels_of t ≤ n → levels_of (wrapped name t) ≤ n + 1
 wrap_le n name t h = omega (arith, h, of_object ((name, t) ∷ []))
 
 pair_le : (n : ℕ) (m k : List ℕ) (t u : Tree) → levels_of t ≤ n → levels_of u ≤ n → levels_of (paired m t k u) ≤ n + 1
 pair_le n m k t u h g = omega (arith, h, g, of_object ((m, t) ∷ (k, u) ∷ []))
 
-str_le : (n : ℕ) (t : List ℕ) → levels_of (trees.Str t) ≤ n
+pub str_le : (n : ℕ) (t : List ℕ) → levels_of (trees.Str t) ≤ n
 str_le n t = omega (arith, of_str t)
 
 number_le : (n : ℕ) (t : List ℕ) → levels_of (trees.Number t) ≤ n

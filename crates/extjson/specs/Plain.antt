@@ -5,6 +5,7 @@ use Rattle.bson_value.specs.declared.value.Value.{Value}
 use Rattle.bson_value.specs.declared.value.Value.TheVariants.{MinKey, MaxKey}
 use Rattle.json_tree.specs.declared.tree.Tree.{Tree, Tree-F}
 use Rattle.json_tree.specs.declared.tree.Tree.TheVariants as trees
+use Rattle.json_tree.specs.WellFormed.{IsWellFormed as IsWellFormedTree}
 use Rattle.extjson.specs.declared.wrapper.Wrapper.{Wrapper}
 use Rattle.extjson.specs.declared.wrapper.Wrapper.TheVariants as wrappers
 use Rattle.extjson.specs.Recursion.{by_parts}
@@ -66,3 +67,7 @@ WrappedOnce = (t : Tree) → wrapped_numbers (wrapped_numbers t) ≡ wrapped_num
 -- the law that the tree of a value has none
 abbrev pub TreesAreWrapped : Type 0
 TreesAreWrapped = (v : Value) → IsWellFormed v → wrapped_numbers (tree_of v) ≡ tree_of v
+
+-- the law that the tree stays well-formed
+abbrev pub WrappedAreWellFormed : Type 0
+WrappedAreWellFormed = (t : Tree) → IsWellFormedTree t → IsWellFormedTree (wrapped_numbers t)

@@ -12,7 +12,10 @@ mod wrapper;
 mod writing;
 
 pub use fault::ExtFault;
-pub use laws::{trees_are_shallow, trees_are_wrapped, trees_read_back, wrapped_once};
+pub use laws::{
+    trees_are_shallow, trees_are_wrapped, trees_read_back, wrapped_are_shallow,
+    wrapped_are_well_formed, wrapped_once,
+};
 pub use plain::wrap_numbers;
 pub use reading::value_of;
 pub use writing::tree_of;

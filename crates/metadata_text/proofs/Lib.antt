@@ -1,3 +1,4 @@
 pub mod Definitions
 pub mod Shapes
 pub mod ReadBack
+pub mod Normal

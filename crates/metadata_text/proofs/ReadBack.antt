@@ -1,14 +1,12 @@
 -- A metadata text means what it was written of.
-use Rattle.std.proofs.Common.{◌≡◌, ℕ, suc, ◌≤◌, max, Bool as Truth, true, false, eqb, ltb, List, [], ◌∷◌, ◌++◌, length, map, Option, Some, None, Result, Ok, Err, refl, sym, ap, ◌∙◌, subst, append_assoc, arith}
+use Rattle.std.proofs.Common.{◌≡◌, ℕ, suc, ◌≤◌, max, Bool as Truth, true, false, eqb, List, [], ◌∷◌, ◌++◌, length, map, Option, Some, None, Result, Ok, Err, refl, sym, ap, ◌∙◌, append_assoc, arith}
 use Rattle.std.specs.Prelude.{fold, codes, IfOk, OnOk}
 use Rattle.std.specs.Ordering.{nat_cmp}
 use Rattle.std.specs.declared.cmp.Ordering.TheVariants.{Greater}
 use Rattle.std.specs.Cmp.Lexicographic.{slice_cmp}
-use Rattle.std.specs.List.{AllByRecursion, list_all}
-use Rattle.std.specs.Str.{is_utf8, bytes_eq, IsAscii}
-use Rattle.std.proofs.lemmas.Bool.{and_parts, ltb-true, ne_eqb}
-use Rattle.std.proofs.lemmas.Str.{is_utf8-from_IsUtf8, IsUtf8-from_ascii}
-use Rattle.std.proofs.lemmas.Str.Ascii.{IsAscii-cons, IsAscii-nil}
+use Rattle.std.specs.List.{AllByRecursion}
+use Rattle.std.specs.Str.{is_utf8, bytes_eq}
+use Rattle.std.proofs.lemmas.Bool.{ne_eqb}
 use Rattle.std.specs.BTreeMap.{insert_entry}
 use Rattle.std.proofs.lemmas.List.{append-nil}
 use Rattle.std.proofs.lemmas.Slice.Eq.{bytes_eq-Decides}
@@ -20,6 +18,7 @@ use Rattle.json_tree.specs.WellFormed.{IsWellFormed, AreWellFormedItems}
 use Rattle.json_tree.proofs.WellFormed.{well_str, well_items, well_object}
 use Rattle.json_text.proofs.Reprinted.{print_read}
 use Rattle.extjson.specs.Trees.{wrapped}
+use Rattle.extjson.proofs.Formed.{ascii}
 use Rattle.metadata_text.specs.Metadata.{Named, definition_name, name_first, named, put_in_order, in_order, trees_of, definitions_of, is_object_at, name_at, text_at, is_object, options_of, indexes_at, indexes_of, metadata_of, id_definition, metadata_tree}
 use Rattle.metadata_text.specs.RoundTrip.{AllBehind, AreRising, AreOthers, AreNormal, AreShallow, WrittenIsRead}
 use Rattle.metadata_text.proofs.Shapes.{both_there}
@@ -71,14 +70,6 @@ same_trees (d ∷ ds) es h = one_more d (definition_name d) (named ds) ds es (sa
 
 differ : (m n : List ℕ) → bytes_eq m n ≡ false → m ≡ n → ⊥
 differ m n e p = let q : true ≡ false = sym ((bytes_eq-Decides m n).1 p) ∙ e in absurd cc
-
-ascii_bytes : (t : List ℕ) → list_all (λ b. ltb b 128) t ≡ true → IsAscii t
-ascii_bytes [] h = IsAscii-nil
-ascii_bytes (b ∷ t) h = let p = and_parts (ltb b 128) (list_all (λ c. ltb c 128) t) h in IsAscii-cons b t (ltb-true b 128 p.0) (ascii_bytes t p.1)
-
--- a text of ASCII characters
-ascii : (t : List ℕ) → list_all (λ b. ltb b 128) t ≡ true → is_utf8 t ≡ true
-ascii t h = is_utf8-from_IsUtf8 t (IsUtf8-from_ascii t (ascii_bytes t h))
 
 is_obj : (es : List (List ℕ × Tree)) → is_object (trees.Object es) ≡ true
 unfolding is_object

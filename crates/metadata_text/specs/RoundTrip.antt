@@ -9,6 +9,7 @@ use Rattle.json_tree.specs.declared.tree.Tree.{Tree}
 use Rattle.json_tree.specs.Levels.{levels_of, items_levels}
 use Rattle.json_tree.specs.WellFormed.{IsWellFormed, AreWellFormedItems}
 use Rattle.json_text.specs.Print.{text_of}
+use Rattle.json_text.specs.Reading.{tree_of_text}
 use Rattle.extjson.specs.Plain.{wrapped_numbers}
 use Rattle.metadata_text.specs.Metadata.{Named, is_object, named, metadata_tree, metadata_of}
 
@@ -38,6 +39,10 @@ pub record AreNormal (options : Tree) (defs : List Tree) : Type 0 where
 pub record AreShallow (options : Tree) (defs : List Tree) : Type 0 where
   pub options_levels : levels_of options ≤ 255
   pub defs_levels : items_levels defs ≤ 254
+
+-- a text of at most 255 levels, where it is JSON
+abbrev pub HasRoom : List ℕ → Type 0
+HasRoom text = (t : Tree) → tree_of_text text ≡ Ok t → levels_of t ≤ 255
 
 abbrev pub WrittenIsRead : Type 0
 WrittenIsRead = (coll : List ℕ) (options : Tree) (defs : List Tree) → is_utf8 coll ≡ true → IsWellFormed options → AreWellFormedItems defs → AreShallow options defs → AreNormal options defs → metadata_of (text_of (metadata_tree coll options defs)) ≡ Ok (options, defs)

@@ -1,8 +1,11 @@
 //! The options and definitions of a metadata text.
-ghost use Rattle.std.specs.Prelude.{◌≡◌, ◌==◌, [], IfOk, OnOk, length, Some, None, string_bytes};
+ghost use Rattle.std.specs.Prelude.{◌≡◌, ◌≤◌, ◌==◌, [], IfOk, OnOk, length, Some, None, string_bytes};
 ghost use Rattle.std.specs.Option.{option_copied};
 ghost use Rattle.json_tree.specs.declared.tree.Tree.{Tree as Datum};
+ghost use Rattle.json_tree.specs.Levels.{levels_of, items_levels};
+ghost use Rattle.json_tree.specs.WellFormed.{IsWellFormed, AreWellFormedItems};
 ghost use Rattle.metadata_text.specs.Metadata.{Gives, is_object, definition_name, options_of, definitions_of, indexes_of, metadata_of, by_bytes, put_in_order};
+ghost use Rattle.metadata_text.specs.RoundTrip.{AreNormal, AreShallow, HasRoom};
 
 use crate::fault::MetaFault;
 use containers::List as JList;
@@ -106,11 +109,8 @@ fn indexes(alloc: Global, fields: &Fields) -> Result<Option<JList<Tree>>, AllocE
     }
 }
 
-/// The options and the index definitions of a metadata text, which is empty or an object with an
-/// object `options` and an array `indexes`, where these are there. The options have wrappers in the
-/// place of their plain whole numbers. The definitions stand in the order of their names, of two with
-/// one name the later, and without the one named `_id_`.
-pub fn metadata_of(alloc: Global, text: &str) -> Result<(Tree, JList<Tree>), MetaFault>
+// The options and the index definitions.
+fn metadata(alloc: Global, text: &str) -> Result<(Tree, JList<Tree>), MetaFault>
     ensures { Gives result (metadata_of text.now) }
 {
     if text.is_empty() {
@@ -127,4 +127,22 @@ pub fn metadata_of(alloc: Global, text: &str) -> Result<(Tree, JList<Tree>), Met
         return Err(MetaFault::Bad { at: text.len() });
     };
     Ok((options, defs))
+}
+
+/// The options and the index definitions of a metadata text, which is empty or an object with an
+/// object `options` and an array `indexes`, where these are there. The options have wrappers in the
+/// place of their plain whole numbers. The definitions stand in the order of their names, of two with
+/// one name the later, and without the one named `_id_`.
+///
+/// The options have at most 256 levels: of the 255 that they can have in the text, the innermost can hold
+/// a plain number, whose wrapper is one more. A text of at most 255 levels gives options that
+/// `metadata_text` writes so that they are read back.
+pub fn metadata_of(alloc: Global, text: &str) -> Result<(Tree, JList<Tree>), MetaFault>
+    ensures gives { Gives result (metadata_of text.now) }
+    ensures well_formed { IfOk result (λ x. IsWellFormed x.0 × AreWellFormedItems x.1) }
+    ensures normal { IfOk result (λ x. AreNormal x.0 x.1) }
+    ensures levels { IfOk result (λ x. (levels_of x.0 ≤ 256) × (items_levels x.1 ≤ 254)) }
+    ensures shallow { HasRoom text.now → IfOk result (λ x. AreShallow x.0 x.1) }
+{
+    metadata(alloc, text)
 }

@@ -1,4 +1,4 @@
-use Rattle.std.proofs.Common.{ap, ◌∙◌, ◌+◌, length, arith}
+use Rattle.std.proofs.Common.{ap, ◌+◌, length, arith}
 use Rattle.bson_value.specs.Spelling.{document_text}
 use Rattle.bson_value.proofs.Sizes.{items_total, value_total, spelled-code, spelled-str, spelled-code_text, spelled-symbol_text, spelled-regex, spelled-pointer}
 use Rattle.bson_value.proofs.+length.Goals as goal

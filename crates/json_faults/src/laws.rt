@@ -1,0 +1,13 @@
+//! The laws of the place at which a text is refused. Each function does nothing, and its caller learns the law.
+ghost use Rattle.json_faults.specs.Faults.{RefusedAtItsToken, RefusedWithin};
+
+/// Where `parse` refuses a text at a place before its end, nothing that begins with the text up to the end
+/// of the token at that place is a JSON text.
+pub fn refused_at_its_token()
+    ensures { RefusedAtItsToken }
+{}
+
+/// The place at which `parse` refuses a text is at most the text's length.
+pub fn refused_within()
+    ensures { RefusedWithin }
+{}

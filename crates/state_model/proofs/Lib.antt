@@ -1,0 +1,9 @@
+pub mod Keys
+pub mod Maps
+pub mod Collections
+pub mod Moves
+pub mod Keeps
+pub mod Made
+pub mod Windows
+pub mod Cut
+pub mod Shown

@@ -1,0 +1,12 @@
+pub mod Keys
+pub mod States
+pub mod Spots
+pub mod Moves
+pub mod Replay
+pub mod Covers
+pub mod Fits
+pub mod Agreement
+pub mod Windows
+pub mod Cut
+pub mod Shown
+pub mod Laws
