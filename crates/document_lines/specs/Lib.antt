@@ -1,0 +1,3 @@
+pub mod Elems
+pub mod Json
+pub mod Lines
