@@ -12,10 +12,12 @@ use Rattle.std.specs.FinMap.{IsAntisymmetric, nat_cmp-IsAntisymmetric, slice_cmp
 use Rattle.std.proofs.lemmas.Cmp.{then_total}
 use Rattle.bson_value.specs.declared.namespace.NsName.{NsName}
 use Rattle.std.specs.Borrow.{Bor}
+use Rattle.bson_view.specs.declared.view.View.{View}
+use Rattle.bson_view.specs.Views.{document}
 use Rattle.std.specs.declared.alloc.Global.{Global}
-use Rattle.state_listing.specs.Listing.{Document}
+use Rattle.document_lines.specs.Lines.{Document}
 use Rattle.archive_format.specs.Archive.{Taking}
-use Rattle.restore_base.specs.Base.{ns_cmp, ns_of, id_key, document_taken, put_document, put_in, put_taking, collections_of, contents_at, no_contents, Contents, Collections}
+use Rattle.restore_base.specs.Base.{ns_cmp, ns_of, id_key, put_document, put_in, put_taking, collections_of, contents_at, no_contents, Contents, Collections}
 use Rattle.restore_base.specs.declared.collections.Kept.{Kept}
 use Rattle.restore_base.specs.declared.base.Held.{Held}
 use Rattle.restore_base.specs.Kept.{taking_of, takings_in}
@@ -136,15 +138,15 @@ ns_insert_entry-removed n v es s = insert_entry-removed ns_cmp ns_total ns_same 
 
 -- ---- the documents of a collection
 
-abbrev key_cmp : Vec ℕ Global → Vec ℕ Global → Ordering
+abbrev pub key_cmp : Vec ℕ Global → Vec ℕ Global → Ordering
 key_cmp a b = slice_cmp nat_cmp a.items b.items
 
-pub document_put : (m n : DocumentMap) (k : Vec ℕ Global) (b : Bor (List ℕ)) → n.entries ≡ insert_entry key_cmp m.entries k b → k.items ≡ id_key (document_taken b.now)
-    → documents_in n ≡ put_document (document_taken b.now) (documents_in m)
+pub document_put : (m n : DocumentMap) (k : Vec ℕ Global) (b : View) → n.entries ≡ insert_entry key_cmp m.entries k b → k.items ≡ id_key (document b)
+    → documents_in n ≡ put_document (document b) (documents_in m)
 document_put m n k b e is =
     let f : Vec ℕ Global → List ℕ = λ x. x.items in
-    let g : Bor (List ℕ) → Document = λ x. document_taken x.now in
-    ap (λ es. map document_entry es) e ∙ (insert_entry-map f g (slice_cmp nat_cmp) m.entries k b ∙ ap (λ q. insert_entry (slice_cmp nat_cmp) (documents_in m) q (document_taken b.now)) is)
+    let g : View → Document = document in
+    ap (λ es. map document_entry es) e ∙ (insert_entry-map f g (slice_cmp nat_cmp) m.entries k b ∙ ap (λ q. insert_entry (slice_cmp nat_cmp) (documents_in m) q (document b)) is)
 
 -- ---- the collections of a state
 

@@ -3,17 +3,19 @@ use Rattle.std.proofs.Common.{◌≡◌, ℕ, List, ◌++◌, length, map, sym, 
 use Rattle.std.specs.Prelude.{Vec}
 use Rattle.std.specs.List.{flat_map}
 use Rattle.std.specs.Borrow.{Bor}
+use Rattle.bson_view.specs.declared.view.View.{View}
 use Rattle.std.specs.declared.alloc.Global.{Global}
 use Rattle.std.proofs.lemmas.List.{length-map}
 use Rattle.std.proofs.lemmas.List.Folds.{flat_map-map}
 use Rattle.bson_value.specs.declared.namespace.NsName.{NsName}
-use Rattle.state_listing.specs.declared.lines.ListForm.{ListForm}
-use Rattle.state_listing.specs.Listing.{document_line, head_text, collection_text}
+use Rattle.document_lines.specs.declared.form.ListForm.{ListForm}
+use Rattle.document_lines.specs.Lines.{document_line}
+use Rattle.state_listing.specs.Listing.{head_text, collection_text}
 use Rattle.restore_base.specs.Base.{Contents, collection}
 use Rattle.restore_base.specs.Gathered.{document_entry, collection_entry}
 use Rattle.restore_base.specs.declared.base.Held.{Held}
 
-abbrev pub documents_text : ListForm → List (Vec ℕ Global × Bor (List ℕ)) → List ℕ
+abbrev pub documents_text : ListForm → List (Vec ℕ Global × View) → List ℕ
 documents_text form es = flat_map (λ e. document_line form e.1) (map document_entry es)
 
 abbrev pub collections_text : ListForm → List ((Bor (List ℕ) × Bor (List ℕ)) × Held) → List ℕ

@@ -15,7 +15,8 @@ use Rattle.json_tree.specs.declared.tree.Tree.TheVariants as trees
 use Rattle.metadata_text.specs.Metadata.{Meta, metadata_of}
 use Rattle.archive_format.specs.Shapes.{is_oplog}
 use Rattle.archive_format.specs.Archive.{Taking, meta, doc, end, fields_of, same_ns}
-use Rattle.state_listing.specs.Listing.{Document, Collection, State}
+use Rattle.document_lines.specs.Lines.{Document}
+use Rattle.state_listing.specs.Listing.{Collection, State}
 use Rattle.restore_base.specs.declared.collections.Stop.{Stop}
 use Rattle.restore_base.specs.declared.collections.Stop.TheVariants.{NoId, Metadata, Indexed}
 

@@ -6,15 +6,17 @@ use Rattle.std.specs.List.Sorted.{IsStrictlySortedBy}
 use Rattle.std.specs.Map.{keys_of}
 use Rattle.std.specs.declared.alloc.Global.{Global}
 use Rattle.bson_value.specs.declared.namespace.NsName.{NsName}
-use Rattle.restore_base.specs.Base.{Documents, Contents, Collections, document_taken, ns_cmp}
+use Rattle.bson_view.specs.declared.view.View.{View}
+use Rattle.bson_view.specs.Views.{document}
+use Rattle.restore_base.specs.Base.{Documents, Contents, Collections, ns_cmp}
 use Rattle.restore_base.specs.declared.base.Held.{Held}
-use Rattle.state_listing.specs.Listing.{Document}
+use Rattle.document_lines.specs.Lines.{Document}
 
 abbrev pub DocumentMap : Type 0
-DocumentMap = BTreeMap (Vec ℕ Global) (Bor (List ℕ))
+DocumentMap = BTreeMap (Vec ℕ Global) View
 
-abbrev pub document_entry : Vec ℕ Global × Bor (List ℕ) → List ℕ × Document
-document_entry e = (e.0.items, document_taken e.1.now)
+abbrev pub document_entry : Vec ℕ Global × View → List ℕ × Document
+document_entry e = (e.0.items, document e.1)
 
 abbrev pub documents_in : DocumentMap → Documents
 documents_in m = map document_entry m.entries

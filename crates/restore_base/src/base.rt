@@ -3,19 +3,21 @@ ghost use Rattle.std.specs.Prelude.{◌≡◌, OnOk, IfOk, None, true};
 ghost use Rattle.std.specs.Map.{remove_entry};
 ghost use Rattle.std.specs.BTreeMap.{insert_entry, is_at};
 ghost use Rattle.archive_format.specs.Archive.{fault_in};
+ghost use Rattle.bson_view.specs.Views.{document};
 ghost use Rattle.restore_base.specs.Base.{put_document, document_taken, options_taken, no_contents, put_in, ns_cmp, contents_at, put_taking, collections_of};
 ghost use Rattle.restore_base.specs.Kept.{taking_of, takings_in, is_sound, are_sound};
 ghost use Rattle.restore_base.specs.Gathered.{documents_in, contents_in, named, gathered_in, IsInOrder};
 
 use crate::collections::Kept;
 use crate::id::id_key;
+use bson_view::View;
 use json_tree::{Fields, Tree};
 use metadata_text::{MetaFault, metadata_of};
 use std::alloc::{AllocError, Global};
 use std::collections::BTreeMap;
 
 /// The documents of a collection, by type byte and bytes of their `_id`.
-pub type Documents<'a> = BTreeMap<Vec<u8>, &'a [u8]>;
+pub type Documents<'a> = BTreeMap<Vec<u8>, View<'a>>;
 
 /// What a collection holds.
 #[derive(Drop)]
@@ -27,6 +29,15 @@ pub struct Held<'a> {
 /// What each namespace holds, by database and collection.
 pub type Gathered<'a> = BTreeMap<(&'a str, &'a str), Held<'a>>;
 
+// The document that the bytes spell.
+#[tactic(auto, unfolding(archive_format::specs::Archive::fault_in, archive_format::specs::Archive::fields_of, bson_check::specs::Faults::first_fault))]
+fn viewed<'a>(bytes: &'a [u8]) -> View<'a>
+    requires { fault_in bytes.now ≡ None }
+    ensures { document result ≡ document_taken bytes.now }
+{
+    View::of(bytes)
+}
+
 // The document in its place, over one with the same `_id`.
 fn put_document<'a>(
     alloc: Global,
@@ -37,7 +48,7 @@ fn put_document<'a>(
     ensures { OnOk result (documents_in documents.new ≡ put_document (document_taken bytes.now) (documents_in documents.old)) }
 {
     let key = id_key(alloc, bytes)?;
-    match documents.insert(key, bytes) {
+    match documents.insert(key, viewed(bytes)) {
         Ok(_) => Ok(()),
         Err(_) => Err(AllocError),
     }

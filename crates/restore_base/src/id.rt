@@ -6,10 +6,7 @@ ghost use Rattle.bson_view.specs.Views.{elem_value};
 ghost use Rattle.restore_base.specs.Base.{has_id, id_key, document_taken};
 ghost use Rattle.restore_base.specs.Kept.{holds_values};
 
-use bson_check::{DecodeFault, MAX_DOCUMENT_BYTES, MAX_LEVELS};
-use bson_core::decode;
-use bson_encode::encode;
-use bson_value::{CText, Doc, Value};
+use bson_encode::put_key;
 use bson_view::{Elem, View};
 use std::alloc::{AllocError, Global};
 
@@ -20,32 +17,6 @@ pub fn has_id(bytes: &[u8]) -> bool
     ensures { result ≡ has_id (document_taken bytes.now) }
 {
     View::of(bytes).field("_id").is_some()
-}
-
-/// The document that the bytes spell.
-#[tactic(auto, unfolding(archive_format::specs::Archive::fields_of))]
-pub fn document(alloc: Global, bytes: &[u8]) -> Result<Doc, AllocError>
-    ensures { IfOk result (λ doc. doc ≡ document_taken bytes.now) }
-{
-    match decode(alloc, bytes, MAX_DOCUMENT_BYTES, MAX_LEVELS) {
-        Ok(doc) => Ok(doc),
-        Err(DecodeFault::NoMemory) => Err(AllocError),
-        Err(DecodeFault::Bad(_)) => Ok(Doc::new(alloc)),
-    }
-}
-
-// The type byte of a value, and the bytes of its spelling, as they stand in a document of this value alone.
-fn value_key(alloc: Global, value: Value) -> Result<Vec<u8>, AllocError>
-    ensures { IfOk result (λ key. key.items ≡ tag_of value ∷ spelled value) }
-{
-    let mut doc = Doc::new(alloc);
-    doc.set(CText::new(alloc), value)?;
-    let bytes = encode(alloc, &doc)?;
-    let bytes = bytes.as_slice();
-    let mut key = Vec::with_capacity(alloc, bytes.len())?;
-    key.push(bytes[4])?;
-    key.extend_from_slice(&bytes[6..bytes.len() - 1])?;
-    Ok(key)
 }
 
 // Whether values of this type hold others, whose names their bytes may have in more than one way.
@@ -67,15 +38,14 @@ fn leaf_key(alloc: Global, elem: Elem<'_>) -> Result<Vec<u8>, AllocError>
     Ok(key)
 }
 
-// The same of a document that is built for it.
-fn built_key(alloc: Global, bytes: &[u8]) -> Result<Vec<u8>, AllocError>
-    ensures { IfOk result (λ key. key.items ≡ id_key (document_taken bytes.now)) }
+// The same of a value that holds others: it is built for it, since its bytes may name the elements of arrays as they like.
+fn built_key(alloc: Global, elem: &Elem<'_>) -> Result<Vec<u8>, AllocError>
+    ensures { IfOk result (λ key. key.items ≡ tag_of (elem_value elem.now) ∷ spelled (elem_value elem.now)) }
 {
-    let mut doc = document(alloc, bytes)?;
-    match doc.remove("_id") {
-        Some(value) => value_key(alloc, value),
-        None => Ok(Vec::new(alloc)),
-    }
+    let value = elem.to_value(alloc)?;
+    let mut key = Vec::new(alloc);
+    put_key(&mut key, &value)?;
+    Ok(key)
 }
 
 /// The type byte and the bytes of the document's `_id`. Where that holds no other value, nothing is built for it.
@@ -85,7 +55,8 @@ pub fn id_key(alloc: Global, bytes: &[u8]) -> Result<Vec<u8>, AllocError>
     ensures { IfOk result (λ key. key.items ≡ id_key (document_taken bytes.now)) }
 {
     match View::of(bytes).field("_id") {
-        Some(id) if !holds_values(id.tag) => leaf_key(alloc, id),
-        _ => built_key(alloc, bytes),
+        None => Ok(Vec::new(alloc)),
+        Some(id) if holds_values(id.tag) => built_key(alloc, &id),
+        Some(id) => leaf_key(alloc, id),
     }
 }

@@ -3,31 +3,34 @@ ghost use Rattle.std.specs.Prelude.{◌≡◌, ◌≤◌, OnOk, OnErr, IsErrOf, 
 ghost use Rattle.std.specs.List.{flat_map};
 ghost use Rattle.std.specs.Io.KnownBytes.{Appends};
 ghost use Rattle.tool_io.specs.Causes.{Rose, AppendsFront};
-ghost use Rattle.state_listing.specs.Listing.{document_line, collection_text, listing};
-ghost use Rattle.restore_base.specs.Base.{document_taken, collection, base};
+ghost use Rattle.document_lines.specs.Lines.{document_line};
+ghost use Rattle.state_listing.specs.Listing.{collection_text, listing};
+ghost use Rattle.bson_view.specs.Views.{document};
+ghost use Rattle.restore_base.specs.Base.{collection, base};
 ghost use Rattle.restore_base.specs.Gathered.{documents_in, contents_in, gathered_in, named};
 ghost use Rattle.restore_base.specs.Taken.{takings_of};
 
 use crate::base::{Documents, Gathered, Held, gather};
 use crate::collections::Collections;
-use crate::id::document;
-use state_listing::{ListForm, write_document, write_head};
+use bson_view::View;
+use document_lines::{Lines, ListForm};
+use state_listing::write_head;
 use std::alloc::Global;
 use tool_io::{Fault, Sink};
 
 fn list_document<K: Sink>(
-    alloc: Global,
-    bytes: &[u8],
+    view: &View<'_>,
     form: ListForm,
+    lines: &mut Lines,
     sink: &mut K,
 ) -> Result<(), Fault>
-    ensures ok { OnOk result (Appends (K.end sink.old).bytes (K.end sink.new).bytes (document_line form (document_taken bytes.now))) }
-    ensures err { OnErr result (AppendsFront (K.end sink.old).bytes (K.end sink.new).bytes (document_line form (document_taken bytes.now))) }
+    ensures ok { OnOk result (Appends (K.end sink.old).bytes (K.end sink.new).bytes (document_line form (document view.now))) }
+    ensures err { OnErr result (AppendsFront (K.end sink.old).bytes (K.end sink.new).bytes (document_line form (document view.now))) }
     ensures later { (K.end sink.old).faults ≤ (K.end sink.new).faults }
     ensures cause { IsErrOf result Fault.Failed → Rose (K.end sink.old).faults (K.end sink.new).faults }
 {
-    match document(alloc, bytes) {
-        Ok(doc) => write_document(alloc, &doc, form, sink),
+    match lines.line(bson_view::Held::Spelled(*view), form) {
+        Ok(line) => sink.write(line),
         Err(_) => Err(Fault::NoMemory),
     }
 }
@@ -43,8 +46,9 @@ fn list_documents<K: Sink>(
     ensures later { (K.end sink.old).faults ≤ (K.end sink.new).faults }
     ensures cause { IsErrOf result Fault.Failed → Rose (K.end sink.old).faults (K.end sink.new).faults }
 {
-    'documents: for (_, bytes) in documents {
-        match list_document(alloc, bytes, form, sink) {
+    let mut lines = Lines::new(alloc);
+    'documents: for (_, view) in documents {
+        match list_document(view, form, &mut lines, sink) {
             Ok(()) => {}
             Err(fault) => return Err(fault),
         }

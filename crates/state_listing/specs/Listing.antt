@@ -1,21 +1,13 @@
 -- The listing of a state: for each collection a line with its name and the number of its documents, a line with its options, and a line for each document.
-use Rattle.std.specs.Prelude.{ℕ, List, [], ◌∷◌, ◌++◌, length, codes}
+use Rattle.std.specs.Prelude.{ℕ, List, ◌∷◌, ◌++◌, length, codes}
 use Rattle.std.specs.List.{flat_map}
 use Rattle.std.specs.Fmt.{decimal}
-use Rattle.hex.specs.Hex.{encode_lower}
 use Rattle.bson_value.specs.Namespace.{dot}
 use Rattle.bson_value.specs.declared.namespace.NsName.{NsName}
-use Rattle.bson_value.specs.declared.value.Value.{Value, Object}
-use Rattle.bson_value.specs.Alike.{by_name, ordered_fields}
-use Rattle.bson_value.specs.Spelling.{document_text}
 use Rattle.json_tree.specs.declared.tree.Tree.{Tree}
 use Rattle.json_text.specs.Print.{quoted, text_of}
-use Rattle.extjson.specs.Trees.{tree_of}
-use Rattle.state_listing.specs.declared.lines.ListForm.{ListForm}
-use Rattle.state_listing.specs.declared.lines.ListForm.TheVariants as forms
-
-abbrev pub Document : Type 0
-Document = List (List ℕ × Value)
+use Rattle.document_lines.specs.declared.form.ListForm.{ListForm}
+use Rattle.document_lines.specs.Lines.{Document, line, document_line}
 
 -- a collection: its options, and its documents by type byte and bytes of their _id
 pub record Collection : Type 0 where
@@ -26,9 +18,6 @@ pub record Collection : Type 0 where
 abbrev pub State : Type 0
 State = List (NsName × Collection)
 
-abbrev pub line : List ℕ → List ℕ
-line text = text ++ 10 ∷ []
-
 -- db.collection, as a JSON string
 abbrev pub name_text : List ℕ → List ℕ → List ℕ
 name_text db coll = quoted (db ++ dot ∷ coll)
@@ -37,18 +26,6 @@ name_text db coll = quoted (db ++ dot ∷ coll)
 abbrev pub head_text : List ℕ → List ℕ → ℕ → Tree → List ℕ
 head_text db coll count options =
     line (codes "collection " ++ name_text db coll ++ codes " " ++ decimal count) ++ line (codes "options " ++ text_of options)
-
--- the fields of each level by the bytes of their names
-abbrev pub in_order : Document → Document
-in_order doc = by_name (ordered_fields doc)
-
--- by its bytes in hexadecimal, or as canonical Extended JSON
-abbrev pub shown : ListForm → Document → List ℕ
-shown forms.Hex doc = encode_lower (document_text doc)
-shown forms.Json doc = text_of (tree_of (Object doc))
-
-abbrev pub document_line : ListForm → Document → List ℕ
-document_line form doc = line (codes "doc " ++ shown form (in_order doc))
 
 abbrev pub collection_text : ListForm → NsName × Collection → List ℕ
 collection_text form c = head_text c.0.db c.0.coll (length c.1.documents) c.1.options ++ flat_map (document_line form) c.1.documents

@@ -2,7 +2,5 @@
 #![tactic(auto)]
 
 mod lines;
-mod ordering;
 
-pub use lines::{ListForm, quoted_name, write_document, write_head};
-pub use ordering::ordered_document;
+pub use lines::{quoted_name, write_head};

@@ -4,8 +4,8 @@ use Rattle.std.specs.Prelude.{◌≡◌, ℕ, ◌+◌, Bool, true, false, not, �
 use Rattle.std.specs.List.{list_any, list_all}
 use Rattle.std.specs.Str.{bytes_eq}
 use Rattle.std.specs.declared.alloc.Global.{Global}
-use Rattle.state_listing.specs.declared.lines.ListForm.{ListForm}
-use Rattle.state_listing.specs.declared.lines.ListForm.TheVariants as forms
+use Rattle.document_lines.specs.declared.form.ListForm.{ListForm}
+use Rattle.document_lines.specs.declared.form.ListForm.TheVariants as forms
 use Rattle.tools_cli.specs.declared.order.Order.{Order}
 use Rattle.tools_cli.specs.declared.order.Order.TheVariants as orders
 use Rattle.tools_cli.specs.declared.table.Verb.{Verb}

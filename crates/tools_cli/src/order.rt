@@ -1,4 +1,4 @@
-use state_listing::ListForm;
+use document_lines::ListForm;
 
 /// What a command is told to do.
 #[derive(Clone, Copy, Debug, PartialEq, Eq)]

@@ -2,7 +2,7 @@
 ghost use Rattle.std.specs.Prelude.{◌≡◌, bytes_eq};
 ghost use Rattle.tools_cli.specs.Words.{is_hex, name_of, commands, options, rules, same_option, row_of};
 
-use state_listing::ListForm;
+use document_lines::ListForm;
 
 /// What the first word names.
 #[derive(Clone, Copy, Debug, PartialEq, Eq)]

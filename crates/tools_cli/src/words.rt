@@ -5,7 +5,7 @@ ghost use Rattle.tools_cli.specs.Words.{behind, value_of, given_in, first_row, m
 
 use crate::order::{Order, RestoreOrder};
 use crate::table::{Kind, OptionName, OptionRow, Rule, Times, Value, Verb};
-use state_listing::ListForm;
+use document_lines::ListForm;
 use std::alloc::{AllocError, AllocFailed, Global};
 
 /// An option that stands, with its value.
