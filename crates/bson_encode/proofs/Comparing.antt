@@ -9,8 +9,8 @@ use Rattle.std.specs.Cmp.Lexicographic.{slice_cmp}
 use Rattle.std.specs.declared.cmp.Ordering.{Ordering}
 use Rattle.std.specs.declared.cmp.Ordering.TheVariants.{Less, Equal, Greater}
 use Rattle.bson_value.specs.declared.value.Value.{Value, Value-F, fold-roll-Value}
-use Rattle.bson_value.specs.declared.value.Value.TheVariants.{Regex, DbPointer, rolls-Regex, rolls-DbPointer}
-use Rattle.bson_value.specs.Spelling.{Typed, spelling_step, count_bytes, counted, framed, spelled, text_bytes}
+use Rattle.bson_value.specs.declared.value.Value.TheVariants.{Regex, DbPointer, ScopedCode, rolls-Regex, rolls-DbPointer, rolls-ScopedCode}
+use Rattle.bson_value.specs.Spelling.{Typed, spelling_step, count_bytes, counted, document_text, framed, spelled, text_bytes}
 use Rattle.bson_encode.specs.Comparing.{step, behind, at_end}
 
 abbrev pub State : Type 0
@@ -76,3 +76,6 @@ spelled_regex p o =
 
 pub spelled_pointer : (t d : List ℕ) → spelled (DbPointer t d) ≡ text_bytes t ++ d
 spelled_pointer t d = ap (λ (v : Value). spelled v) (sym (rolls-DbPointer t d)) ∙ ap (λ (y : Typed). y.1) (fold-roll-Value Typed spelling_step (Value-F.DbPointer t d))
+
+pub spelled_scoped : (t : List ℕ) (fs : List (List ℕ × Value)) → spelled (ScopedCode t fs) ≡ counted (text_bytes t ++ document_text fs)
+spelled_scoped t fs = ap (λ (v : Value). spelled v) (sym (rolls-ScopedCode t fs)) ∙ ap (λ (y : Typed). y.1) (fold-roll-Value Typed spelling_step (Value-F.ScopedCode t fs))

@@ -1,4 +1,5 @@
 pub mod Comparing
 pub mod Key
 pub mod Laws
+pub mod Leading
 pub mod Numbered

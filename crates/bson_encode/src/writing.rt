@@ -27,7 +27,7 @@ fn text_of(text: &Text) -> &str
     text.as_str()
 }
 
-fn name_of(name: &CText) -> &str
+pub(crate) fn name_of(name: &CText) -> &str
     ensures value { result.now ≡ name.now }
     ensures name { IsName name.now }
 {
