@@ -166,3 +166,28 @@ eight_at_once xs s a l = sym (all_at_once xs s a ∙ (ap (λ (n : ℕ). shifts (
 pub after_both : (xs ys : List ℕ) (s : ℕ) → crc_on s (xs ++ ys) ≡ crc_on (crc_on s xs) ys
 after_both [] ys s = refl
 after_both (x ∷ xs) ys s = after_both xs ys (crc_step s x)
+
+-- ---- whole bytes of a number
+
+byte_more : (y j : ℕ) → y % 2 ^ (8 * (j + 1)) ≡ (y / 2 ^ (8 * j) % 256) * 2 ^ (8 * j) + y % 2 ^ (8 * j)
+byte_more y j = let k : 8 * (j + 1) ≡ 8 + 8 * j = omega arith in ap (λ (m : ℕ). y % 2 ^ m) k ∙ mod-pow-add y 8 (8 * j)
+
+pub bytes_step : (y j table sum : ℕ) → j < 8 → table ≡ shifts (8 * (7 - j + 1)) (y / 2 ^ (8 * j) % 256) → sum ≡ shifts 64 (y % 2 ^ (8 * j)) → bit_xor sum table ≡ shifts 64 (y % 2 ^ (8 * (j + 1)))
+bytes_step y j table sum l is before =
+    let n = y / 2 ^ (8 * j) % 256 in
+    let k : 8 * j + 8 * (7 - j + 1) ≡ 64 = omega arith in
+    let moved : shifts 64 (n * 2 ^ (8 * j)) ≡ shifts (8 * (7 - j + 1)) n =
+    ap (λ (m : ℕ). shifts m (n * 2 ^ (8 * j))) (sym k) ∙ (shifts_more (8 * j) (8 * (7 - j + 1)) (n * 2 ^ (8 * j)) ∙ ap (shifts (8 * (7 - j + 1))) (shifts_out (8 * j) n)) in
+    ap (λ (x : ℕ). bit_xor x table) before ∙ (ap (λ (x : ℕ). bit_xor (shifts 64 (y % 2 ^ (8 * j))) x) (is ∙ sym moved)
+    ∙ (sym (shifts_xor 64 (y % 2 ^ (8 * j)) (n * 2 ^ (8 * j))) ∙ ap (shifts 64) (cat_xor n (8 * j) (y % 2 ^ (8 * j)) (mod-lt y (pow_pos (8 * j))) ∙ sym (byte_more y j))))
+
+-- a byte by its halves: the upper one has four bits fewer behind it
+pub byte_by_halves : (k b low high : ℕ) → low ≡ shifts (4 * (2 * k + 1 + 1)) (b % 16) → high ≡ shifts (4 * (2 * k + 1)) (b / 16) → bit_xor low high ≡ shifts (8 * (k + 1)) b
+byte_by_halves k b low high l h =
+    let n = 4 * (2 * k + 1) in
+    let size : 4 * (2 * k + 1 + 1) ≡ 8 * (k + 1) = omega arith in
+    let more : 4 + n ≡ 8 * (k + 1) = omega arith in
+    let whole : bit_xor (b % 16) (b / 16 * 2 ^ 4) ≡ b = cat_xor (b / 16) 4 (b % 16) (omega arith) ∙ omega arith in
+    let moved : shifts (8 * (k + 1)) (b / 16 * 2 ^ 4) ≡ shifts n (b / 16) = ap (λ (m : ℕ). shifts m (b / 16 * 2 ^ 4)) (sym more) ∙ (shifts_more 4 n (b / 16 * 2 ^ 4) ∙ ap (shifts n) (shifts_out 4 (b / 16))) in
+    ap (λ (x : ℕ). bit_xor x high) (l ∙ ap (λ (m : ℕ). shifts m (b % 16)) size) ∙ ap (λ (x : ℕ). bit_xor (shifts (8 * (k + 1)) (b % 16)) x) (h ∙ sym moved)
+    ∙ sym (shifts_xor (8 * (k + 1)) (b % 16) (b / 16 * 2 ^ 4)) ∙ ap (shifts (8 * (k + 1))) whole

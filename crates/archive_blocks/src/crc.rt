@@ -1,8 +1,9 @@
 //! The sum that ends a namespace's documents: CRC-64 with the reflected ECMA polynomial.
-ghost use Rattle.std.specs.Prelude.{◌≡◌, ◌<◌, ◌≤◌, ◌++◌, ◌^◌, length};
+ghost use Rattle.std.specs.Prelude.{◌≡◌, ◌+◌, ◌*◌, ◌<◌, ◌≤◌, ◌++◌, ◌^◌, length};
 ghost use Rattle.archive_format.specs.Crc.{crc_step, crc_start, crc_on, crc_end};
-ghost use Rattle.archive_blocks.specs.Shifts.{shifts};
+ghost use Rattle.archive_blocks.specs.Shifts.{shifts, IsFilled};
 
+use std::alloc::{AllocError, Global};
 use std::marker::Model;
 
 /// What each half of a byte adds to the sum: the row says how many further halves stand behind it, and
@@ -310,6 +311,61 @@ fn leave(number: u64) -> u64
     sum
 }
 
+// What a whole byte adds to the sum, with so many whole bytes behind it.
+fn whole_byte(behind: usize, byte: u8) -> u64
+    requires { behind < 8 }
+    ensures { result ≡ shifts (8 * (behind + 1)) byte }
+{
+    HALVES[2 * behind + 1][(byte % 16) as usize] ^ HALVES[2 * behind][(byte / 16) as usize]
+}
+
+/// What each byte adds to a sum, by how many bytes of eight stand behind it. With it a sum takes half the time.
+#[derive(Drop)]
+pub struct CrcTable {
+    rows: Vec<u64>,
+    ghost filled: { IsFilled 2048 rows.items },
+}
+
+impl CrcTable {
+    /// Makes the table, of 16 KiB.
+    pub fn new(alloc: Global) -> Result<CrcTable, AllocError> {
+        let mut rows = Vec::with_capacity(alloc, 2048)?;
+        'rows: for i in 0..2048 {
+            rows.push(whole_byte(i / 256, (i % 256) as u8))?;
+        }
+        Ok(CrcTable { rows })
+    }
+
+    fn row(&self, behind: usize, byte: u8) -> u64
+        requires { behind < 8 }
+        ensures { result ≡ shifts (8 * (behind + 1)) byte }
+    {
+        self.rows[256 * behind + byte as usize]
+    }
+
+    // The register after all 64 bits of this number have left.
+    fn leave(&self, number: u64) -> u64
+        ensures { result ≡ shifts 64 number }
+    {
+        let mut sum = 0;
+        'bytes: for j in 0..8 {
+            let byte = (number >> (8 * j)) % 256;
+            sum ^= self.row(7 - j, byte as u8);
+        }
+        sum
+    }
+
+    // The register after eight bytes more.
+    fn add_eight(&self, sum: u64, bytes: &[u8]) -> u64
+        requires { length bytes.now ≡ 8 }
+        ensures { result ≡ crc_on sum bytes.now }
+    {
+        let mut eight = [0; 8];
+        eight.copy_from_slice(bytes);
+        self.leave(sum ^ u64::from_le_bytes(eight))
+    }
+}
+
 // The register after half a byte has left.
 fn leave_half(sum: u64) -> u64
     ensures { result ≡ shifts 4 sum }
@@ -364,6 +420,20 @@ impl Crc {
         let mut rest = bytes;
         'eights: while rest.len() >= 8 {
             self.left = add_eight(self.left, &rest[..8]);
+            rest = &rest[8..];
+        }
+        'bytes: for byte in rest {
+            self.left = add_byte(self.left, *byte);
+        }
+    }
+
+    /// The same by a table.
+    pub fn add_by(&mut self, table: &CrcTable, bytes: &[u8])
+        ensures { self.new ≡ crc_on self.old bytes.now }
+    {
+        let mut rest = bytes;
+        'eights: while rest.len() >= 8 {
+            self.left = table.add_eight(self.left, &rest[..8]);
             rest = &rest[8..];
         }
         'bytes: for byte in rest {

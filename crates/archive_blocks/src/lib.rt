@@ -5,6 +5,6 @@ mod crc;
 mod heads;
 mod writer;
 
-pub use crc::Crc;
+pub use crc::{Crc, CrcTable};
 pub use heads::{HeadFault, NsHead, read_ns_head};
 pub use writer::BlockWriter;

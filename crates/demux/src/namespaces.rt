@@ -1,5 +1,5 @@
 //! The namespaces that headers named.
-ghost use Rattle.std.specs.Prelude.{◌≡◌, ◌∷◌, [], ◌++◌, ◌<◌, true, false, length, set, None, Some, OnOk, IfSome, slice_get};
+ghost use Rattle.std.specs.Prelude.{◌≡◌, ◌∷◌, [], ◌++◌, ◌<◌, true, false, length, set, None, Some, OnOk, IfOk, IfSome, slice_get};
 ghost use Rattle.std.specs.Option.{option_copied};
 ghost use Rattle.archive_format.specs.Crc.{crc_start, crc_on};
 ghost use Rattle.archive_format.specs.Shapes.{named};
@@ -7,6 +7,7 @@ ghost use Rattle.archive_format.specs.Archive.{Seen as Entry, seat_of};
 
 use crate::index::Index;
 use crate::seen::Seen;
+use archive_blocks::CrcTable;
 use bson_value::{NsName, Text};
 use std::alloc::{AllocError, Global};
 use std::marker::Model;
@@ -17,6 +18,7 @@ pub struct Namespaces {
     alloc: Global,
     entries: Vec<Seen>,
     index: Index,
+    table: CrcTable,
 }
 
 impl Model for Namespaces {
@@ -32,14 +34,16 @@ impl Model for Namespaces {
 }
 
 impl Namespaces {
-    pub fn new(alloc: Global) -> Namespaces
-        ensures { result ≡ [] }
+    /// None so far. The table for their checksums takes memory.
+    pub fn new(alloc: Global) -> Result<Namespaces, AllocError>
+        ensures { IfOk result (λ names. names ≡ []) }
     {
-        Namespaces {
+        Ok(Namespaces {
             alloc,
             entries: Vec::new(alloc),
             index: Index::new(alloc),
-        }
+            table: CrcTable::new(alloc)?,
+        })
     }
 
     pub fn len(&self) -> usize
@@ -93,7 +97,7 @@ impl Namespaces {
         requires { i < length self.old }
         ensures { (e : Entry) → slice_get self.old i ≡ Some e → self.new ≡ set self.old i (record e { sum = crc_on e.sum bytes.now }) }
     {
-        self.entries[i].add(bytes);
+        self.entries[i].add(&self.table, bytes);
     }
 
     pub fn end(&mut self, i: usize)

@@ -144,8 +144,8 @@ pub struct Demux {
 }
 
 impl Demux {
-    /// Reserves the whole window, 16,793,600 bytes. Nothing more is taken for reading, and of the window no more is
-    /// written than documents need.
+    /// Reserves the whole window, 16,793,600 bytes, and makes the table of checksums, 16 KiB. Nothing more is taken for
+    /// reading, and of the window no more is written than documents need.
     pub fn new(alloc: Global) -> Result<Demux, AllocError> {
         Ok(Demux {
             window: Window::new(alloc, MAX_DOCUMENT_BYTES)?,
@@ -153,7 +153,7 @@ impl Demux {
                 alloc,
                 place: Place::Front,
                 metas: Metas::new(alloc),
-                seen: Namespaces::new(alloc),
+                seen: Namespaces::new(alloc)?,
             },
         })
     }

@@ -2,7 +2,7 @@
 ghost use Rattle.std.specs.Prelude.{◌≡◌, true, false};
 ghost use Rattle.archive_format.specs.Crc.{crc_start, crc_on, crc_end};
 
-use archive_blocks::Crc;
+use archive_blocks::{Crc, CrcTable};
 use bson_value::NsName;
 use std::marker::Model;
 
@@ -58,10 +58,10 @@ impl Seen {
         self.sum.sum()
     }
 
-    pub fn add(&mut self, bytes: &[u8])
+    pub fn add(&mut self, table: &CrcTable, bytes: &[u8])
         ensures { self.new ≡ record self.old { sum = crc_on self.old.sum bytes.now } }
     {
-        self.sum.add(bytes);
+        self.sum.add_by(table, bytes);
     }
 
     pub fn end(&mut self)
