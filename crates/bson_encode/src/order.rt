@@ -18,9 +18,9 @@ use std::cmp::Ordering;
 pub fn cmp_keys(a: &Value, b: &Value) -> Ordering
     ensures { length (spelled a.now) < 2 ^ 31 → length (spelled b.now) < 2 ^ 31 → result ≡ slice_cmp nat_cmp (key_of a.now) (key_of b.now) }
 {
-    let order = byte(type_of(a), type_of(b));
-    if order.is_ne() {
-        return order;
+    let types = byte(type_of(a), type_of(b));
+    if types.is_ne() {
+        return types;
     }
     value(a, b)
 }
