@@ -1,0 +1,9 @@
+pub mod Rows
+pub mod Changes
+pub mod Definitions
+pub mod Codes
+pub mod Kept
+pub mod Order
+pub mod Stock
+pub mod Tables
+pub mod Walks

@@ -1,0 +1,301 @@
+//! A collection: its options, its index definitions, and its documents in record order.
+ghost use Rattle.std.specs.Prelude.{◌≡◌, ◌+◌, ◌<◌, ◌≤◌, ◌^◌, [], OnOk, OnErr, option_map, is_some, Some, None, MatchResult, length};
+ghost use Rattle.std.specs.Option.{option_copied};
+ghost use Rattle.std.specs.FinMap as map;
+ghost use Rattle.bson_encode.specs.Key.{key_of};
+ghost use Rattle.state_model.specs.Keys.{key_cmp};
+ghost use Rattle.coll_state.specs.Rows.{row_of, key_in, id_of, scan, IsSound};
+ghost use Rattle.coll_state.specs.Changes.{fresh_table, put_table, drop_table, with_incarnation, put_index, take_index};
+ghost use Rattle.coll_state.specs.Definitions.{definition_name};
+ghost use Rattle.coll_state.specs.Order.{IsFound, IsGap};
+ghost use Rattle.coll_state.specs.Stock.{row_in, rows_in, Rise, beside};
+ghost use Rattle.std.specs.List.Sorted.{IsSearchInRange};
+
+use crate::kept::Kept;
+use crate::sorted::Sorted;
+use bson_encode::cmp_key;
+use bson_value::{Bytes, Value};
+use containers::List as JList;
+use json_tree::Tree;
+use std::alloc::{AllocError, Global};
+use std::cmp::Ordering;
+use std::marker::Model;
+
+/// The record number of a key.
+#[derive(Drop)]
+pub(crate) struct Numbered {
+    key: Bytes,
+    no: u128,
+}
+
+/// A document under its record number.
+#[derive(Drop)]
+pub(crate) struct Record {
+    pub(crate) no: u128,
+    pub(crate) document: Kept,
+}
+
+/// A collection. Contracts also see how many documents more it has room for.
+#[derive(Drop)]
+pub(crate) struct Collection {
+    options: Tree,
+    indexes: JList<Tree>,
+    incarnation: u128,
+    next: u128,
+    numbers: Sorted<Numbered>,
+    records: Sorted<Record>,
+}
+
+impl Model for Collection {
+    ghost use Rattle.std.specs.Prelude.{min};
+    ghost use Rattle.coll_state.specs.Stock.{Stock, stock_code, table_in, AreParts};
+
+    ghost Value = { Stock };
+
+    ghost coded = { stock_code };
+
+    ghost view = { λ c. record {
+      table = table_in c.options c.indexes c.incarnation c.next c.records.items;
+      room = min c.numbers.room c.records.room;
+    } };
+
+    ghost invariant = { λ c. AreParts c.indexes c.next c.numbers.items c.records.items };
+}
+
+// The name of a definition.
+#[tactic(auto, unfolding(crate::specs::Definitions::definition_name))]
+fn name_of(def: &Tree) -> &str
+    ensures { result.now ≡ definition_name def.now }
+{
+    match def {
+        Tree::Object(fields) => match fields.get("name") {
+            Some(Tree::Str(name)) => name.as_str(),
+            _ => "",
+        },
+        _ => "",
+    }
+}
+
+// Where the definition of a name is, or would stand.
+fn place_of(defs: &[Tree], name: &str) -> Result<usize, usize>
+    ensures bound { IsSearchInRange result (length defs.now) }
+    ensures place { Rise key_cmp definition_name defs.now → MatchResult result (IsFound (beside key_cmp definition_name name.now) defs.now) (IsGap (beside key_cmp definition_name name.now) defs.now) }
+{
+    defs.binary_search_by(|def| name_of(def).cmp(name))
+}
+
+// How a key stands beside that of an `_id`.
+fn order_beside(key: &Bytes, id: &Value) -> Ordering
+    ensures { result ≡ key_cmp key.now (key_of id.now) }
+{
+    match key.as_slice().split_first() {
+        Some((tag, rest)) => cmp_key(id, *tag, rest).reverse(),
+        None => Ordering::Less,
+    }
+}
+
+impl Collection {
+    /// An empty one. It takes no memory.
+    pub(crate) fn new(alloc: Global, options: Tree, incarnation: u128) -> Collection
+        ensures { result.table ≡ fresh_table incarnation options }
+    {
+        Collection {
+            options,
+            indexes: JList::new(alloc),
+            incarnation,
+            next: 1,
+            numbers: Sorted::new(alloc),
+            records: Sorted::new(alloc),
+        }
+    }
+
+    /// Does nothing. Its caller learns that the collection is sound.
+    pub(crate) fn is_sound(&self)
+        ensures { IsSound self.now.table }
+    {
+        let _ = &self.options;
+    }
+
+    fn number(&self, id: &Value) -> Option<u128>
+        ensures { result ≡ option_map (λ r. r.no) (row_of self.now.table.rows (key_of id.now)) }
+    {
+        match self
+            .numbers
+            .find(|numbered| order_beside(&numbered.key, id))
+        {
+            Some(numbered) => Some(numbered.no),
+            None => None,
+        }
+    }
+
+    /// The record of an `_id`.
+    pub(crate) fn record(&self, id: &Value) -> Option<&Record>
+        ensures { option_map (λ r. row_in r.now) result ≡ row_of self.now.table.rows (key_of id.now) }
+    {
+        let no = self.number(id)?;
+        self.records.find(|record| record.no.cmp(&no))
+    }
+
+    /// The options.
+    pub(crate) fn options(&self) -> &Tree
+        ensures { result.now ≡ self.now.table.options }
+    {
+        &self.options
+    }
+
+    /// The index definitions by name.
+    pub(crate) fn indexes(&self) -> &JList<Tree>
+        ensures { result.now ≡ map.values self.now.table.indexes }
+    {
+        &self.indexes
+    }
+
+    /// The incarnation.
+    pub(crate) fn incarnation(&self) -> u128
+        ensures { result ≡ self.now.table.incarnation }
+    {
+        self.incarnation
+    }
+
+    /// The first `n` records behind a number.
+    pub(crate) fn after(&self, no: u128, n: usize) -> &[Record]
+        ensures { rows_in result.now ≡ scan no n self.now.table.rows }
+    {
+        let start = self.records.place(|record| {
+            if record.no <= no {
+                Ordering::Less
+            } else {
+                Ordering::Greater
+            }
+        });
+        let behind = &self.records.as_slice()[start..];
+        &behind[..n.min(behind.len())]
+    }
+
+    /// Another incarnation.
+    pub(crate) fn set_incarnation(&mut self, incarnation: u128)
+        ensures { self.new.table ≡ with_incarnation incarnation self.old.table }
+    {
+        self.incarnation = incarnation;
+    }
+
+    /// Room for so many more documents.
+    pub(crate) fn reserve(&mut self, more: usize) -> Result<(), AllocError>
+        ensures table { self.new.table ≡ self.old.table }
+        ensures room { self.old.room ≤ self.new.room }
+        ensures ok { OnOk result (more ≤ self.new.room) }
+    {
+        self.numbers.reserve(more)?;
+        self.records.reserve(more)
+    }
+
+    fn number_of_key(&self, key: &Bytes) -> Option<u128>
+        ensures { result ≡ option_map (λ r. r.no) (row_of self.now.table.rows key.now) }
+    {
+        match self.numbers.find(|numbered| numbered.key.cmp(key)) {
+            Some(numbered) => Some(numbered.no),
+            None => None,
+        }
+    }
+
+    // The document in the place of the one under this number.
+    fn replace(&mut self, no: u128, document: Kept)
+        requires { option_map (λ r. r.no) (row_of self.old.table.rows (key_in (id_of document))) ≡ Some no }
+        ensures table { self.new.table ≡ put_table (key_in (id_of document)) document self.old.table }
+        ensures room { self.old.room ≡ self.new.room }
+    {
+        self.records
+            .set(Record { no, document }, |record| record.no.cmp(&no));
+    }
+
+    // The document behind all others.
+    fn add(&mut self, key: Bytes, document: Kept)
+        requires key { key ≡ key_in (id_of document) }
+        requires absent { row_of self.old.table.rows key ≡ None }
+        requires room { 1 ≤ self.old.room }
+        requires number { self.old.table.next + 1 < 2 ^ 128 }
+        ensures table { self.new.table ≡ put_table key document self.old.table }
+        ensures room { self.old.room ≤ self.new.room + 1 }
+    {
+        let no = self.next;
+        let place = self.numbers.place(|numbered| numbered.key.cmp(&key));
+        self.numbers.insert(place, Numbered { key, no });
+        self.records.push(Record { no, document });
+        self.next = no + 1;
+    }
+
+    /// The document in the place of the one of its key, or behind all others.
+    pub(crate) fn put(&mut self, key: Bytes, document: Kept)
+        requires key { key ≡ key_in (id_of document) }
+        requires room { 1 ≤ self.old.room }
+        requires number { self.old.table.next + 1 < 2 ^ 128 }
+        ensures table { self.new.table ≡ put_table key document self.old.table }
+        ensures room { self.old.room ≤ self.new.room + 1 }
+    {
+        match self.number_of_key(&key) {
+            Some(no) => self.replace(no, document),
+            None => self.add(key, document),
+        }
+    }
+
+    /// The same, with room made for it.
+    pub(crate) fn put_one(&mut self, key: Bytes, document: Kept) -> Result<(), AllocError>
+        requires key { key ≡ key_in (id_of document) }
+        requires number { self.old.table.next + 1 < 2 ^ 128 }
+        ensures ok { OnOk result (self.new.table ≡ put_table key document self.old.table) }
+        ensures err { OnErr result (self.new.table ≡ self.old.table) }
+    {
+        self.reserve(1)?;
+        self.put(key, document);
+        Ok(())
+    }
+
+    /// Takes the document of an `_id` out, and says whether it was there.
+    pub(crate) fn remove(&mut self, id: &Value) -> bool
+        ensures there { result ≡ is_some (row_of self.old.table.rows (key_of id.now)) }
+        ensures table { self.new.table ≡ drop_table (key_of id.now) self.old.table }
+        ensures room { self.old.room ≤ self.new.room }
+    {
+        match self
+            .numbers
+            .remove(|numbered| order_beside(&numbered.key, id))
+        {
+            Some(numbered) => {
+                let no = numbered.no;
+                let _ = self.records.remove(|record| record.no.cmp(&no));
+                true
+            }
+            None => false,
+        }
+    }
+
+    /// The definition, in the place of the one of its name.
+    pub(crate) fn add_index(&mut self, def: Tree) -> Result<(), AllocError>
+        ensures ok { OnOk result (self.new.table ≡ put_index (definition_name def) def self.old.table) }
+        ensures err { OnErr result (self.new.table ≡ self.old.table) }
+        ensures room { self.old.room ≡ self.new.room }
+    {
+        match place_of(self.indexes.as_slice(), name_of(&def)) {
+            Ok(at) => {
+                let _ = self.indexes.replace(at, def);
+                Ok(())
+            }
+            Err(at) => self.indexes.insert(at, def),
+        }
+    }
+
+    /// Takes the definition of this name out, and says whether it was there.
+    pub(crate) fn drop_index(&mut self, name: &str) -> bool
+        ensures there { result ≡ map.contains_key self.old.table.indexes name.now }
+        ensures table { self.new.table ≡ take_index name.now self.old.table }
+        ensures room { self.old.room ≡ self.new.room }
+    {
+        match place_of(self.indexes.as_slice(), name) {
+            Ok(at) => {
+                let _ = self.indexes.remove(at);
+                true
+            }
+            Err(_) => false,
+        }
+    }
+}

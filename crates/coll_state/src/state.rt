@@ -1,0 +1,241 @@
+//! The collections of a server.
+ghost use Rattle.std.specs.Prelude.{◌≡◌, ◌+◌, ◌<◌, ◌^◌, OnOk, OnErr, IfOk, is_some, option_map, true, false, None, ◌≢◌};
+ghost use Rattle.std.specs.Option.{option_copied};
+ghost use Rattle.std.specs.FinMap as map;
+ghost use Rattle.bson_encode.specs.Key.{key_of};
+ghost use Rattle.coll_state.specs.Rows.{id_of, key_in, AreSound};
+ghost use Rattle.coll_state.specs.Changes.{no_rows, put, remove, create, drop_ns, drop_db, rename, add_index, drop_index, document_at, has_index, rows_after};
+ghost use Rattle.coll_state.specs.Walks.{names_left, looks, looks_left};
+ghost use Rattle.coll_state.specs.Kept.{shown, shown_in};
+
+use crate::collection::Collection;
+use crate::kept::Kept;
+use crate::tables::{self, Tables};
+use crate::walks::{After, Namespaces};
+use bson_encode::put_key;
+use bson_value::{Bytes, Doc, NsName, Value};
+use bson_view::Held;
+use containers::List as JList;
+use json_tree::{Fields, Tree};
+use std::alloc::{AllocError, Global};
+use std::collections::BTreeMap;
+use std::marker::Model;
+
+/// Collections by their names: options, index definitions, and documents in record order.
+#[derive(Drop)]
+pub struct State {
+    tables: Tables,
+    count: u128,
+}
+
+impl Model for State {
+    ghost use Rattle.coll_state.specs.Rows.{Rows, AreSound};
+    ghost use Rattle.coll_state.specs.Codes.{rows_code};
+    ghost use Rattle.coll_state.specs.Tables.{tables_in};
+
+    ghost Value = { Rows };
+
+    ghost coded = { rows_code };
+
+    ghost view = { λ s. record { tables = tables_in s.tables; count = s.count } };
+
+    ghost invariant = { λ s. AreSound (record { tables = tables_in s.tables; count = s.count }) };
+}
+
+// The key of a document's `_id`.
+fn key_in(alloc: Global, doc: &Doc) -> Result<Bytes, AllocError>
+    requires { is_some (id_of doc.now) ≡ true }
+    ensures { IfOk result (λ key. key ≡ key_in (id_of doc.now)) }
+{
+    match doc.get("_id") {
+        Some(id) => key_of(alloc, id),
+        None => unreachable!(),
+    }
+}
+
+// The key of an `_id`.
+fn key_of(alloc: Global, id: &Value) -> Result<Bytes, AllocError>
+    ensures { IfOk result (λ key. key ≡ key_of id.now) }
+{
+    let mut key = Vec::new(alloc);
+    put_key(&mut key, id)?;
+    Ok(Bytes::from_vec(key))
+}
+
+impl State {
+    /// No collections.
+    pub fn new(alloc: Global) -> State
+        ensures { result ≡ no_rows }
+    {
+        State {
+            tables: BTreeMap::new(alloc),
+            count: 0,
+        }
+    }
+
+    /// Does nothing. Its caller learns that record numbers rise, and that no incarnation stands twice.
+    pub fn is_sound(&self)
+        ensures { AreSound self.now }
+    {
+        let _ = &self.tables;
+    }
+
+    /// Whether the collection is there.
+    pub fn has(&self, ns: &NsName) -> bool
+        ensures { result ≡ map.contains_key self.now.tables ns.now }
+    {
+        tables::get(&self.tables, ns).is_some()
+    }
+
+    /// Which of the collections that had this name it is.
+    pub fn incarnation(&self, ns: &NsName) -> Option<u128>
+        ensures { result ≡ option_map (λ t. t.incarnation) (map.get self.now.tables ns.now) }
+    {
+        match tables::get(&self.tables, ns) {
+            Some(collection) => Some(collection.incarnation()),
+            None => None,
+        }
+    }
+
+    /// The options.
+    pub fn options(&self, ns: &NsName) -> Option<&Tree>
+        ensures { option_copied result ≡ option_map (λ t. t.options) (map.get self.now.tables ns.now) }
+    {
+        match tables::get(&self.tables, ns) {
+            Some(collection) => Some(collection.options()),
+            None => None,
+        }
+    }
+
+    /// The index definitions, by name.
+    pub fn indexes(&self, ns: &NsName) -> Option<&JList<Tree>>
+        ensures { option_copied result ≡ option_map (λ t. map.values t.indexes) (map.get self.now.tables ns.now) }
+    {
+        match tables::get(&self.tables, ns) {
+            Some(collection) => Some(collection.indexes()),
+            None => None,
+        }
+    }
+
+    /// The document of an `_id`. It is spelled exactly where its spelling has at most 16,777,216 bytes,
+    /// and it has at most 100 levels.
+    pub fn get(&self, ns: &NsName, id: &Value) -> Option<Held<'_>>
+        ensures { option_map shown_in result ≡ option_map shown (document_at ns.now (key_of id.now) self.now.tables) }
+    {
+        let collection = tables::get(&self.tables, ns)?;
+        match collection.record(id) {
+            Some(record) => Some(record.document.look()),
+            None => None,
+        }
+    }
+
+    /// A copy of the document of an `_id`.
+    pub fn copy_of(&self, alloc: Global, ns: &NsName, id: &Value) -> Result<Option<Doc>, AllocError>
+        ensures { IfOk result (λ doc. doc ≡ document_at ns.now (key_of id.now) self.now.tables) }
+    {
+        let Some(collection) = tables::get(&self.tables, ns) else {
+            return Ok(None);
+        };
+        match collection.record(id) {
+            Some(record) => Ok(Some(record.document.to_doc(alloc)?)),
+            None => Ok(None),
+        }
+    }
+
+    /// The names of the collections, in order.
+    pub fn namespaces(&self) -> Namespaces<'_>
+        ensures { names_left result ≡ map.keys self.now.tables }
+    {
+        Namespaces::of(&self.tables)
+    }
+
+    /// The first `n` documents behind a record number, in record order, with their numbers.
+    pub fn after(&self, ns: &NsName, number: u128, n: usize) -> After<'_>
+        ensures { looks_left result ≡ looks (rows_after number n (map.get self.now.tables ns.now)) }
+    {
+        match tables::get(&self.tables, ns) {
+            Some(collection) => After::of(collection.after(number, n)),
+            None => After::of(&[]),
+        }
+    }
+
+    /// The document, in the place of the one of its `_id`, whose number it keeps, or behind all others.
+    /// A missing collection is made, without options.
+    pub fn put(&mut self, alloc: Global, ns: &NsName, doc: Doc) -> Result<(), AllocError>
+        requires id { is_some (id_of doc) ≡ true }
+        requires count { self.old.count < 2 ^ 127 }
+        ensures ok { OnOk result (self.new ≡ put ns.now doc self.old) }
+        ensures err { OnErr result (self.new ≡ self.old) }
+    {
+        let key = key_in(alloc, &doc)?;
+        let document = Kept::of(alloc, doc)?;
+        tables::put(&mut self.tables, alloc, ns, self.count, key, document)?;
+        self.count += 1;
+        Ok(())
+    }
+
+    /// Takes the document of an `_id` out, and says whether it was there.
+    pub fn remove(&mut self, ns: &NsName, id: &Value) -> bool
+        ensures state { self.new ≡ remove ns.now (key_of id.now) self.old }
+        ensures there { result ≡ is_some (document_at ns.now (key_of id.now) self.old.tables) }
+    {
+        tables::remove(&mut self.tables, ns, id)
+    }
+
+    /// Drops the collection, and says whether it was there.
+    pub fn drop_ns(&mut self, ns: &NsName) -> bool
+        ensures state { self.new ≡ drop_ns ns.now self.old }
+        ensures there { result ≡ map.contains_key self.old.tables ns.now }
+    {
+        tables::take(&mut self.tables, ns).is_some()
+    }
+
+    /// Drops the collections of a database, and says how many there were.
+    pub fn drop_db(&mut self, db: &str) -> usize
+        ensures state { self.new ≡ drop_db db.now self.old }
+        ensures count { result + map.len self.new.tables ≡ map.len self.old.tables }
+    {
+        tables::drop_db(&mut self.tables, db)
+    }
+
+    /// The collection anew, without documents and definitions, whether it was there or not.
+    pub fn create(&mut self, alloc: Global, ns: &NsName, options: Tree) -> Result<(), AllocError>
+        requires { self.old.count < 2 ^ 127 }
+        ensures ok { OnOk result (self.new ≡ create ns.now options self.old) }
+        ensures err { OnErr result (self.new ≡ self.old) }
+    {
+        let fresh = Collection::new(alloc, options, self.count);
+        tables::set(&mut self.tables, alloc, ns, fresh)?;
+        self.count += 1;
+        Ok(())
+    }
+
+    /// The collection under another name, as a new incarnation. Its documents keep their numbers.
+    pub fn rename(&mut self, alloc: Global, from: &NsName, to: &NsName) -> Result<(), AllocError>
+        requires there { map.contains_key self.old.tables from.now ≡ true }
+        requires free { map.contains_key self.old.tables to.now ≡ false }
+        requires count { self.old.count < 2 ^ 127 }
+        ensures ok { OnOk result (self.new ≡ rename from.now to.now self.old) }
+        ensures err { OnErr result (self.new ≡ self.old) }
+    {
+        tables::rename(&mut self.tables, alloc, from, to, self.count)?;
+        self.count += 1;
+        Ok(())
+    }
+
+    /// The definition, in the place of the one of its name.
+    pub fn add_index(&mut self, ns: &NsName, def: Tree) -> Result<(), AllocError>
+        ensures ok { OnOk result (self.new ≡ add_index ns.now def self.old) }
+        ensures err { OnErr result (self.new ≡ self.old) }
+    {
+        tables::add_index(&mut self.tables, ns, def)
+    }
+
+    /// Takes the definition of this name out, and says whether it was there.
+    pub fn drop_index(&mut self, ns: &NsName, name: &str) -> bool
+        ensures state { self.new ≡ drop_index ns.now name.now self.old }
+        ensures there { result ≡ has_index name.now (map.get self.old.tables ns.now) }
+    {
+        tables::drop_index(&mut self.tables, ns, name)
+    }
+}
