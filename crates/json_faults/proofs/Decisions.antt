@@ -1,6 +1,6 @@
 -- What a step reads is decided by bytes that it has looked at, whatever stands behind them.
-use Rattle.std.proofs.Common.{◌≡◌, ◌⊎◌, ℕ, suc, ◌+◌, Bool as Truth, true, false, List, [], ◌∷◌, ◌++◌, length, Result, Ok, Err, refl, sym, ap, ◌∙◌, subst, inl, inr, append_assoc, arith}
-use Rattle.std.proofs.lemmas.List.{length-append}
+use Rattle.std.proofs.Common.{◌≡◌, ◌⊎◌, ℕ, suc, ◌+◌, Bool as Truth, true, false, List, [], ◌∷◌, ◌++◌, length, take, Result, Ok, Err, refl, sym, ap, ◌∙◌, subst, inl, inr, append_assoc, arith}
+use Rattle.std.proofs.lemmas.List.{length-append, take-append-le, take_all}
 use Rattle.json_text.specs.Reading.{◌>>=◌, Taken, is_space}
 use Rattle.json_text.proofs.Found.{bind_ok, taken_is}
 use Rattle.json_faults.specs.Tokens.{is_part}
@@ -75,6 +75,9 @@ value_is_none x p h = absurd cc
 pub bind_err : {A B : Type 0} (r : Result A ℕ) (k : A → Result B ℕ) (p : ℕ) → (r >>= k) ≡ Err p → (r ≡ Err p) ⊎ ((x : A) × (r ≡ Ok x) × (k x ≡ Err p))
 bind_err (Ok x) k p h = inr (x, refl, h)
 bind_err {A} (Err e) k p h = let is : e ≡ p = cc in inl (ap (λ (n : ℕ). Err n) is)
+
+pub take-append : (c r : List ℕ) → take (length c) (c ++ r) ≡ c
+take-append c r = take-append-le (length c) c r (omega arith) ∙ take_all (length c) c (omega arith)
 
 pub behind_length : (s : ℕ) (c r : List ℕ) → s + length (c ++ r) ≡ (s + length c) + length r
 behind_length s c r = omega (arith, length-append c r)

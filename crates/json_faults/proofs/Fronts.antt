@@ -13,11 +13,11 @@ use Rattle.json_text.proofs.FoundValues.{json_found}
 use Rattle.json_text.proofs.FoundStrings.{differs}
 use Rattle.json_faults.specs.Tokens.{token_from, up_to_token}
 use Rattle.json_faults.specs.Faults.{Continues, ContinuesToItsFault, RefusedAtItsEnd}
-use Rattle.json_faults.proofs.Decisions.{Step, run, err_is, value_is_none, bind_err}
+use Rattle.json_faults.proofs.Decisions.{Step, run, err_is, value_is_none, bind_err, take-append}
 use Rattle.json_faults.proofs.Numbers.{space_decided}
-use Rattle.json_faults.proofs.Values.{Free, InToken, IsTold, told_both, spaced, spaced_told, read_told}
+use Rattle.json_faults.proofs.Values.{Free, InToken, IsDecidedAnywhere, told_both, spaced, spaced_told, read_told}
 use Rattle.json_faults.proofs.OpenValues.{read_go}
-use Rattle.json_faults.proofs.Texts.{refused_at_token, token_front, take-append}
+use Rattle.json_faults.proofs.Texts.{refused_at_token, token_front}
 
 abbrev front_value : Step Tree
 front_value = spaced (value_at 256)
@@ -43,7 +43,7 @@ goes_on p text front rest more t e at h = (more, t, json_found (take p text ++ m
 spaced_behind : Step Tree
 spaced_behind end bytes = front_value end bytes >>= λ x. Ok (x.0, after_space x.1)
 
-behind_told : IsTold spaced_behind
+behind_told : IsDecidedAnywhere spaced_behind
 unfolding spaced_behind
 behind_told s = told_both Free front_value (λ t end bytes. Ok (t, after_space bytes)) spaced_behind s (λ bytes. refl) (spaced_told Free (value_at 256) s (read_told 256) (λ y c d k. tt)) (λ t r. space_decided Free InToken t r (λ c. tt)) (λ y c d k. tt)
 

@@ -214,16 +214,16 @@ digit_parts (b ∷ c) h = let p = and_parts (is_digit b) (list_all is_digit c) h
 -- ---- numbers
 
 module _ (start : ℕ) where
-  abbrev Told : Step (Unit {0}) → ℕ → Type 0
-  Told f s = IsDecided false AreParts (InWord start) f s
+  abbrev IsDecidedHere : Step (Unit {0}) → ℕ → Type 0
+  IsDecidedHere f s = IsDecided false AreParts (InWord start) f s
 
-  rest_decided : (s : ℕ) → Told (λ end bytes. Ok (tt, after_digits bytes)) s
+  rest_decided : (s : ℕ) → IsDecidedHere (λ end bytes. Ok (tt, after_digits bytes)) s
   rest_decided s = passing after_digits is_digit none_digits more_digits stop_digits clean_digits AreParts (InWord start) tt s digit_parts
 
   abbrev first_of : (Step (Unit {0})) → ℕ → Type 0
   first_of f s = (b : ℕ) → AtByte false AreParts (InWord start) f s b
 
-  digits_decided : (s : ℕ) → Told (plain (digits_at start)) s
+  digits_decided : (s : ℕ) → IsDecidedHere (plain (digits_at start)) s
   unfolding digits_at
   digits_decided s =
       by_first false AreParts (InWord start) (plain (digits_at start)) s (ends (λ end. refl)) (λ b.
@@ -242,7 +242,7 @@ module _ (start : ℕ) where
   part_is : (b n : ℕ) → is_part n ≡ true → eqb b n ≡ true → is_part b ≡ true
   part_is b n h e = subst (λ (m : ℕ). is_part m ≡ true) (sym (eqb-true b n e)) h
 
-  whole_decided : (s : ℕ) → Told (plain (whole_at start)) s
+  whole_decided : (s : ℕ) → IsDecidedHere (plain (whole_at start)) s
   unfolding whole_at
   whole_decided s =
       by_first false AreParts (InWord start) (plain (whole_at start)) s (ends (λ end. refl)) (λ b.
@@ -251,7 +251,7 @@ module _ (start : ℕ) where
         | inr e ↦ alike refl (plain (digits_at start)) (λ bytes. rw e refl) (digits_decided s) (λ w c x k. ap alone (clean_whole start (s + length w) w c))
       ])
 
-  minus_decided : (s : ℕ) → Told (λ end bytes. Ok (tt, after_minus bytes)) s
+  minus_decided : (s : ℕ) → IsDecidedHere (λ end bytes. Ok (tt, after_minus bytes)) s
   unfolding after_minus
   minus_decided s =
       by_first false AreParts (InWord start) (λ end bytes. Ok (tt, after_minus bytes)) s (passes refl tt refl (λ end. refl) (λ w c. ap (λ (l : List ℕ). Ok (tt, l)) (clean_minus w c))) (λ b.
@@ -265,7 +265,7 @@ module _ (start : ℕ) where
   sign_case b false true e f h = part_is b 45 refl f
   sign_case b false false e f h = absurd cc
 
-  sign_decided : (s : ℕ) → Told (λ end bytes. Ok (tt, after_sign bytes)) s
+  sign_decided : (s : ℕ) → IsDecidedHere (λ end bytes. Ok (tt, after_sign bytes)) s
   unfolding after_sign
   sign_decided s =
       by_first false AreParts (InWord start) (λ end bytes. Ok (tt, after_sign bytes)) s (passes refl tt refl (λ end. refl) (λ w c. ap (λ (l : List ℕ). Ok (tt, l)) (clean_sign w c))) (λ b.
@@ -275,18 +275,18 @@ module _ (start : ℕ) where
       ])
 
   -- one plain step behind the other
-  both_decided : (f g h : Step (Unit {0})) (s : ℕ) → ((bytes : List ℕ) → run h s bytes ≡ (run f s bytes >>= λ x. g (s + length bytes) x.1)) → Told f s → ((t : ℕ) → Told g t) → Told h s
+  both_decided : (f g h : Step (Unit {0})) (s : ℕ) → ((bytes : List ℕ) → run h s bytes ≡ (run f s bytes >>= λ x. g (s + length bytes) x.1)) → IsDecidedHere f s → ((t : ℕ) → IsDecidedHere g t) → IsDecidedHere h s
   both_decided f g h s made first second =
       bound false AreParts AreParts AreParts (InWord start) f (λ x. g) h s made first (λ x c k. second (s + length c)) (λ x y c d k l. all_parts c d k l) (λ x c u b p k t. (t.0, all_parts c u k t.1))
 
   signed : Step (Unit {0})
   signed end bytes = alone (digits_at start end (after_sign bytes))
 
-  signed_decided : (s : ℕ) → Told signed s
+  signed_decided : (s : ℕ) → IsDecidedHere signed s
   unfolding signed
   signed_decided s = both_decided (λ end bytes. Ok (tt, after_sign bytes)) (plain (digits_at start)) signed s (λ bytes. refl) (sign_decided s) digits_decided
 
-  fraction_decided : (s : ℕ) → Told (plain (fraction_at start)) s
+  fraction_decided : (s : ℕ) → IsDecidedHere (plain (fraction_at start)) s
   unfolding fraction_at
   fraction_decided s =
       by_first false AreParts (InWord start) (plain (fraction_at start)) s (passes refl tt refl (λ end. refl) (λ w c. ap alone (clean_fraction start (s + length w) w c))) (λ b.
@@ -301,7 +301,7 @@ module _ (start : ℕ) where
   mark_case b false true e f h = part_is b 69 refl f
   mark_case b false false e f h = absurd cc
 
-  exponent_decided : (s : ℕ) → Told (plain (exponent_at start)) s
+  exponent_decided : (s : ℕ) → IsDecidedHere (plain (exponent_at start)) s
   unfolding exponent_at signed
   exponent_decided s =
       by_first false AreParts (InWord start) (plain (exponent_at start)) s (passes refl tt refl (λ end. refl) (λ w c. ap alone (clean_exponent start (s + length w) w c))) (λ b.
@@ -314,7 +314,7 @@ module _ (start : ℕ) where
   tail : Step (Unit {0})
   tail end bytes = alone (fraction_at start end bytes >>= λ fraction. exponent_at start end fraction)
 
-  tail_decided : (s : ℕ) → Told tail s
+  tail_decided : (s : ℕ) → IsDecidedHere tail s
   unfolding tail
   tail_decided s =
       both_decided (plain (fraction_at start)) (plain (exponent_at start)) tail s (λ bytes. alone_both (fraction_at start (s + length bytes) bytes) (λ fraction. exponent_at start (s + length bytes) fraction)) (fraction_decided s) exponent_decided
@@ -322,12 +322,12 @@ module _ (start : ℕ) where
   unsigned : Step (Unit {0})
   unsigned end bytes = alone (whole_at start end bytes >>= λ whole. fraction_at start end whole >>= λ fraction. exponent_at start end fraction)
 
-  unsigned_decided : (s : ℕ) → Told unsigned s
+  unsigned_decided : (s : ℕ) → IsDecidedHere unsigned s
   unfolding unsigned tail
   unsigned_decided s =
       both_decided (plain (whole_at start)) tail unsigned s (λ bytes. alone_both (whole_at start (s + length bytes) bytes) (λ whole. fraction_at start (s + length bytes) whole >>= λ fraction. exponent_at start (s + length bytes) fraction)) (whole_decided s) tail_decided
 
-  past_decided : (s : ℕ) → Told (plain (after_number start)) s
+  past_decided : (s : ℕ) → IsDecidedHere (plain (after_number start)) s
   unfolding after_number unsigned
   past_decided s = both_decided (λ end bytes. Ok (tt, after_minus bytes)) unsigned (plain (after_number start)) s (λ bytes. refl) (minus_decided s) unsigned_decided
 

@@ -4,13 +4,15 @@ use Rattle.std.specs.Char.{encode_utf8}
 use Rattle.std.specs.List.{list_all}
 use Rattle.std.specs.Str.{IsUtf8, IsAscii, is_utf8}
 use Rattle.std.proofs.lemmas.Bool.{cases_Bool, and_parts, eqb-true, ltb-true, lt-ltb}
-use Rattle.std.proofs.lemmas.List.{length-append, append-nil, take-append-le, take_all}
+use Rattle.std.proofs.lemmas.List.{length-append, append-nil}
+use Rattle.std.proofs.Math.Seq.{drop-append_seam}
 use Rattle.std.proofs.lemmas.Str.{IsUtf8-take, IsUtf8-drop, IsUtf8-append, IsUtf8-from_ascii, IsCharBoundary-before_ascii, IsCharBoundary-after_ascii, is_utf8-from_IsUtf8}
 use Rattle.std.proofs.lemmas.Str.Ascii.{IsAscii-cons, IsAscii-nil}
 use Rattle.json_text.specs.Reading.{◌>>=◌, Taken, steps_at, word_at, hex_value, hex_at, unit_at, low_at, unicode_at, meant, one as letter, escape_at, piece_at, as_text, string_at}
 use Rattle.json_text.proofs.Found.{bind_ok, ok_is, taken_is}
-use Rattle.json_faults.proofs.Decisions.{Step, run, IsDecided, Goes, err_is, fault_is_none, value_is_none, bind_err, behind_length}
+use Rattle.json_faults.proofs.Decisions.{Step, run, IsDecided, Goes, err_is, fault_is_none, value_is_none, bind_err, behind_length, take-append}
 use Rattle.json_faults.proofs.Numbers.{alone, alone_then}
+use Rattle.json_faults.proofs.Steps.{turns, turns_behind, one_turn, stepped, first_fails}
 use Rattle.json_faults.proofs.Strings.{Within, InString, hex, hex_decided, last_digit, unit_decided, slash_u, slash_decided, low_unit, low_second, low_first, character, third, second, Piece, piece_decided, pieces, string_is, string_decided}
 use Rattle.json_faults.proofs.Completions.{AreLow, low_append, Whatever, Completes, Fresh, at_start, behind_one, IsCompletable, giving, both}
 use Rattle.json_faults.proofs.Escapes.{escape_means}
@@ -40,10 +42,6 @@ byte_at : (a : List ℕ) (b : ℕ) (r : List ℕ) → get_or (a ++ b ∷ r) (len
 byte_at [] b r = refl
 byte_at (c ∷ a) b r = byte_at a b r
 
-drop-front : (a r : List ℕ) → drop (length a) (a ++ r) ≡ r
-drop-front [] r = refl
-drop-front (b ∷ a) r = drop-front a r
-
 -- a text beside an ASCII byte
 pub utf8_split : (a : List ℕ) (b : ℕ) (r : List ℕ) → b < 128 → IsUtf8 (a ++ b ∷ r) → IsUtf8 a × IsUtf8 r
 utf8_split a b r h u =
@@ -53,8 +51,8 @@ utf8_split a b r h u =
     let before : IsUtf8 (take (length a) text) = IsUtf8-take text (length a) u (IsCharBoundary-before_ascii text (length a) inside ascii) in
     let behind : IsUtf8 (drop (length a + 1) text) = IsUtf8-drop text (length a + 1) u (IsCharBoundary-after_ascii text (length a) u inside ascii) in
     let longer : length (a ++ b ∷ []) ≡ length a + 1 = omega (arith, length-append a (b ∷ [])) in
-    let rest : drop (length a + 1) text ≡ r = ap (λ (n : ℕ). drop n text) (sym longer) ∙ (ap (λ (l : List ℕ). drop (length (a ++ b ∷ [])) l) (sym (append_assoc a (b ∷ []) r)) ∙ drop-front (a ++ b ∷ []) r) in
-    (subst IsUtf8 (take-append-le (length a) a (b ∷ r) (omega arith) ∙ take_all (length a) a (omega arith)) before, subst IsUtf8 rest behind)
+    let rest : drop (length a + 1) text ≡ r = ap (λ (n : ℕ). drop n text) (sym longer) ∙ (ap (λ (l : List ℕ). drop (length (a ++ b ∷ [])) l) (sym (append_assoc a (b ∷ []) r)) ∙ drop-append_seam (a ++ b ∷ []) r) in
+    (subst IsUtf8 (take-append a (b ∷ r)) before, subst IsUtf8 rest behind)
 
 -- within a string that begins at this place, with a fault at another one
 module _ (start p : ℕ) (late : p ≢ start) where
@@ -220,42 +218,32 @@ module _ (start p : ℕ) (late : p ≢ start) where
 
   -- ---- pieces
 
-  abbrev turns : ℕ → List ℕ → ℕ → List ℕ → Taken (List ℕ)
-  turns n done end bytes = steps_at (λ d bs. piece_at start end d bs) n end done bytes
-
-  abbrev on : ℕ → ℕ → List ℕ → (List ℕ × Truth) × List ℕ → Taken (List ℕ)
-  on n end done x = cond x.0.1 (turns n (done ++ x.0.0) end x.1) (Ok (done ++ x.0.0, x.1))
-
-  one_turn : (n : ℕ) (done : List ℕ) (end : ℕ) (bytes : List ℕ) → turns (suc n) done end bytes ≡ (piece_at start end done bytes >>= on n end done)
-  unfolding steps_at
-  one_turn n done end bytes = refl
-
-  stepped : (n : ℕ) (done xs : List ℕ) (end : ℕ) (bytes rest : List ℕ) (y : Taken (List ℕ)) → piece_at start end done bytes ≡ Ok ((xs, true), rest) → turns n (done ++ xs) end rest ≡ y → turns (suc n) done end bytes ≡ y
-  stepped n done xs end bytes rest y e k = one_turn n done end bytes ∙ (ap (λ (q : Taken (List ℕ × Truth)). q >>= on n end done) e ∙ k)
+  abbrev piece : ℕ → List ℕ → List ℕ → Taken (List ℕ × Truth)
+  piece end done bytes = piece_at start end done bytes
 
   a_piece : (end : ℕ) (done bs : List ℕ) → piece_at start end done (97 ∷ bs) ≡ Ok ((97 ∷ [], true), bs)
   unfolding piece_at
   a_piece end done bs = refl
 
-  quote_turn : (n end : ℕ) (done bs : List ℕ) → turns (suc n) done end (34 ∷ bs) ≡ Ok (done ++ [], bs)
+  quote_turn : (n end : ℕ) (done bs : List ℕ) → turns piece (suc n) done end (34 ∷ bs) ≡ Ok (done ++ [], bs)
   unfolding steps_at piece_at
   quote_turn n end done bs = refl
 
-  run_extra : (extra : List ℕ) (m end : ℕ) (done w : List ℕ) → AreA extra → length (extra ++ 34 ∷ w) < m → turns m done end (extra ++ 34 ∷ w) ≡ Ok (done ++ extra, w)
+  run_extra : (extra : List ℕ) (m end : ℕ) (done w : List ℕ) → AreA extra → length (extra ++ 34 ∷ w) < m → turns piece m done end (extra ++ 34 ∷ w) ≡ Ok (done ++ extra, w)
   run_extra extra zero end done w a lt = absurd (omega arith)
   run_extra [] (suc m) end done w a lt = quote_turn m end done w
   run_extra (b ∷ extra) (suc m) end done w a lt =
       let q = and_parts (eqb b 97) (list_all (λ c. eqb c 97) extra) a in
       let is : b ≡ 97 = eqb-true b 97 q.0 in
-      let rest : turns m (done ++ 97 ∷ []) end (extra ++ 34 ∷ w) ≡ Ok (done ++ 97 ∷ extra, w) = run_extra extra m end (done ++ 97 ∷ []) w q.1 (omega arith) ∙ ap (λ (l : List ℕ). Ok (l, w)) (append_assoc done (97 ∷ []) extra) in
-      let whole : turns (suc m) done end (97 ∷ (extra ++ 34 ∷ w)) ≡ Ok (done ++ 97 ∷ extra, w) = stepped m done (97 ∷ []) end (97 ∷ (extra ++ 34 ∷ w)) (extra ++ 34 ∷ w) (Ok (done ++ 97 ∷ extra, w)) (a_piece end done (extra ++ 34 ∷ w)) rest in
-      subst (λ (n : ℕ). turns (suc m) done end (n ∷ (extra ++ 34 ∷ w)) ≡ Ok (done ++ n ∷ extra, w)) (sym is) whole
+      let rest : turns piece m (done ++ 97 ∷ []) end (extra ++ 34 ∷ w) ≡ Ok (done ++ 97 ∷ extra, w) = run_extra extra m end (done ++ 97 ∷ []) w q.1 (omega arith) ∙ ap (λ (l : List ℕ). Ok (l, w)) (append_assoc done (97 ∷ []) extra) in
+      let whole : turns piece (suc m) done end (97 ∷ (extra ++ 34 ∷ w)) ≡ Ok (done ++ 97 ∷ extra, w) = stepped piece m done (97 ∷ [], true) end (97 ∷ (extra ++ 34 ∷ w)) (extra ++ 34 ∷ w) (Ok (done ++ 97 ∷ extra, w)) (a_piece end done (extra ++ 34 ∷ w)) rest in
+      subst (λ (n : ℕ). turns piece (suc m) done end (n ∷ (extra ++ 34 ∷ w)) ≡ Ok (done ++ n ∷ extra, w)) (sym is) whole
 
   -- what is added, letters behind it, a closing quote and anything
   abbrev ended : List ℕ → List ℕ → List ℕ → List ℕ
   ended more extra w = more ++ (extra ++ 34 ∷ w)
 
-  record Opened (done : List ℕ) (s : ℕ) (bytes : List ℕ) : Type 0 where
+  record OpenPieces (done : List ℕ) (s : ℕ) (bytes : List ℕ) : Type 0 where
     front : List ℕ
     rest : List ℕ
     more : List ℕ
@@ -263,16 +251,16 @@ module _ (start p : ℕ) (late : p ≢ start) where
     here : bytes ≡ front ++ rest
     at : p ≡ s + length front
     low : AreLow more
-    always : (extra w : List ℕ) (m : ℕ) → AreA extra → length (front ++ ended more extra w) < m → turns m done (s + length (front ++ ended more extra w)) (front ++ ended more extra w) ≡ Ok (done ++ (text ++ extra), w)
+    always : (extra w : List ℕ) (m : ℕ) → AreA extra → length (front ++ ended more extra w) < m → turns piece m done (s + length (front ++ ended more extra w)) (front ++ ended more extra w) ≡ Ok (done ++ (text ++ extra), w)
 
-  nothing_open : (done : List ℕ) (s : ℕ) → p ≡ s → Opened done s []
+  nothing_open : (done : List ℕ) (s : ℕ) → p ≡ s → OpenPieces done s []
   nothing_open done s e = record { front = []; rest = []; more = []; text = []; here = refl; at = omega (arith, e); low = refl; always = λ extra w m a lt. run_extra extra m (s + length (extra ++ 34 ∷ w)) done w a lt }
 
   back_piece : (end : ℕ) (done bs m rest : List ℕ) → escape_at start end bs ≡ Ok (m, rest) → piece_at start end done (92 ∷ bs) ≡ Ok ((m, true), rest)
   unfolding piece_at
   back_piece end done bs m rest e = rw e refl
 
-  escape_opened : (done : List ℕ) (s : ℕ) (bs : List ℕ) → Completes true Whatever escape (suc s) bs p → Opened done s (92 ∷ bs)
+  escape_opened : (done : List ℕ) (s : ℕ) (bs : List ℕ) → Completes true Whatever escape (suc s) bs p → OpenPieces done s (92 ∷ bs)
   escape_opened done s bs c = record {
     front = 92 ∷ c.front;
     rest = c.rest;
@@ -284,7 +272,7 @@ module _ (start p : ℕ) (late : p ≢ start) where
     always = λ extra w m a lt. goes extra w m a lt;
   }
     where
-      goes : (extra w : List ℕ) (m : ℕ) → AreA extra → length (92 ∷ (c.front ++ ended c.more extra w)) < m → turns m done (s + length (92 ∷ (c.front ++ ended c.more extra w))) (92 ∷ (c.front ++ ended c.more extra w)) ≡ Ok (done ++ (c.thing ++ extra), w)
+      goes : (extra w : List ℕ) (m : ℕ) → AreA extra → length (92 ∷ (c.front ++ ended c.more extra w)) < m → turns piece m done (s + length (92 ∷ (c.front ++ ended c.more extra w))) (92 ∷ (c.front ++ ended c.more extra w)) ≡ Ok (done ++ (c.thing ++ extra), w)
       goes extra w zero a lt = absurd (omega arith)
       goes extra w (suc m) a lt =
           let tail = extra ++ 34 ∷ w in
@@ -292,12 +280,12 @@ module _ (start p : ℕ) (late : p ≢ start) where
           let end = s + length (92 ∷ body) in
           let read : escape_at start end body ≡ Ok (c.thing, tail) = ap (λ (n : ℕ). escape_at start n body) (omega arith) ∙ c.always tail tt in
           let fewer : length tail < m = omega (arith, lt, length-append c.front (c.more ++ tail), length-append c.more tail) in
-          stepped m done c.thing end (92 ∷ body) tail (Ok (done ++ (c.thing ++ extra), w)) (back_piece end done body c.thing tail read) (run_extra extra m end (done ++ c.thing) w a fewer ∙ ap (λ (l : List ℕ). Ok (l, w)) (append_assoc done c.thing extra))
+          stepped piece m done (c.thing, true) end (92 ∷ body) tail (Ok (done ++ (c.thing ++ extra), w)) (back_piece end done body c.thing tail read) (run_extra extra m end (done ++ c.thing) w a fewer ∙ ap (λ (l : List ℕ). Ok (l, w)) (append_assoc done c.thing extra))
 
   abbrev PieceRead : List ℕ → ℕ → List ℕ → List ℕ → List ℕ → Type 0
   PieceRead done s bytes xs r = Goes true (Piece start) (λ end bs. piece_at start end done bs) s bytes (xs, true) r
 
-  later_opened : (done : List ℕ) (s : ℕ) (bytes xs r : List ℕ) → (a : PieceRead done s bytes xs r) → Opened (done ++ xs) (s + length a.front) r → Opened done s bytes
+  later_opened : (done : List ℕ) (s : ℕ) (bytes xs r : List ℕ) → (a : PieceRead done s bytes xs r) → OpenPieces (done ++ xs) (s + length a.front) r → OpenPieces done s bytes
   later_opened done s bytes xs r a o = record {
     front = a.front ++ o.front;
     rest = o.rest;
@@ -307,12 +295,12 @@ module _ (start p : ℕ) (late : p ≢ start) where
     at = omega (arith, o.at, length-append a.front o.front);
     low = o.low;
     always = λ extra w m l lt.
-        subst (λ (q : List ℕ). turns m done (s + length q) q ≡ Ok (done ++ ((xs ++ o.text) ++ extra), w)) (sym (append_assoc a.front o.front (ended o.more extra w)))
+        subst (λ (q : List ℕ). turns piece m done (s + length q) q ≡ Ok (done ++ ((xs ++ o.text) ++ extra), w)) (sym (append_assoc a.front o.front (ended o.more extra w)))
         (goes extra w m l (subst (λ (q : List ℕ). length q < m) (append_assoc a.front o.front (ended o.more extra w)) lt));
   }
     where
       goes : (extra w : List ℕ) (m : ℕ) → AreA extra → length (a.front ++ (o.front ++ ended o.more extra w)) < m
-          → turns m done (s + length (a.front ++ (o.front ++ ended o.more extra w))) (a.front ++ (o.front ++ ended o.more extra w)) ≡ Ok (done ++ ((xs ++ o.text) ++ extra), w)
+          → turns piece m done (s + length (a.front ++ (o.front ++ ended o.more extra w))) (a.front ++ (o.front ++ ended o.more extra w)) ≡ Ok (done ++ ((xs ++ o.text) ++ extra), w)
       goes extra w zero l lt = absurd (omega arith)
       goes extra w (suc m) l lt =
           let tail = o.front ++ ended o.more extra w in
@@ -320,11 +308,11 @@ module _ (start p : ℕ) (late : p ≢ start) where
           let k = a.kept in
           let fewer : length tail < m = omega (arith, lt, length-append a.front tail, k.0) in
           let regroup : (done ++ xs) ++ (o.text ++ extra) ≡ done ++ ((xs ++ o.text) ++ extra) = simp append_assoc in
-          let shift : turns m (done ++ xs) end tail ≡ Ok (done ++ ((xs ++ o.text) ++ extra), w) = ap (λ (n : ℕ). turns m (done ++ xs) n tail) (behind_length s a.front tail) ∙ (o.always extra w m l fewer ∙ ap (λ (q : List ℕ). Ok (q, w)) regroup) in
-          stepped m done xs end (a.front ++ tail) tail (Ok (done ++ ((xs ++ o.text) ++ extra), w)) (a.always tail tt) shift
+          let shift : turns piece m (done ++ xs) end tail ≡ Ok (done ++ ((xs ++ o.text) ++ extra), w) = ap (λ (n : ℕ). turns piece m (done ++ xs) n tail) (behind_length s a.front tail) ∙ (o.always extra w m l fewer ∙ ap (λ (q : List ℕ). Ok (q, w)) regroup) in
+          stepped piece m done (xs, true) end (a.front ++ tail) tail (Ok (done ++ ((xs ++ o.text) ++ extra), w)) (a.always tail tt) shift
 
   -- a piece that is refused is an escape that is cut
-  piece_fault : (done : List ℕ) (s b : ℕ) (bs : List ℕ) → run (λ end l. piece_at start end done l) s (b ∷ bs) ≡ Err p → Opened done s (b ∷ bs)
+  piece_fault : (done : List ℕ) (s b : ℕ) (bs : List ℕ) → run (λ end l. piece_at start end done l) s (b ∷ bs) ≡ Err p → OpenPieces done s (b ∷ bs)
   unfolding piece_at
   piece_fault done s b bs h =
       elim (cases_Bool (eqb b 34)) [
@@ -337,7 +325,7 @@ module _ (start p : ℕ) (late : p ≢ start) where
                   elim (bind_err (escape_at start (s + length (b ∷ bs)) bs) (λ x. Ok ((x.0, true), x.1)) p k) [
                     | inl f ↦
                         let shift : run escape (suc s) bs ≡ Err p = ap (λ (n : ℕ). escape_at start n bs) (omega arith) ∙ f in
-                        subst (λ (n : ℕ). Opened done s (n ∷ bs)) (sym is) (escape_opened done s bs (escape_complete (suc s) bs shift))
+                        subst (λ (n : ℕ). OpenPieces done s (n ∷ bs)) (sym is) (escape_opened done s bs (escape_complete (suc s) bs shift))
                     | inr one ↦ absurd (value_is_none ((one.0.0, true), one.0.1) p one.2)
                   ]
               | inr e ↦
@@ -352,23 +340,23 @@ module _ (start p : ℕ) (late : p ≢ start) where
   unfolding piece_at
   no_piece done end = refl
 
-  next_opened : (n s : ℕ) (done : List ℕ) (bytes xs r : List ℕ) (more : Truth) → length bytes < suc n → ((t : ℕ) (before : List ℕ) (bs : List ℕ) → length bs < n → turns n before (t + length bs) bs ≡ Err p → Opened before t bs)
-      → Goes true (Piece start) (λ end bs. piece_at start end done bs) s bytes (xs, more) r → on n (s + length bytes) done ((xs, more), r) ≡ Err p → Opened done s bytes
+  next_opened : (n s : ℕ) (done : List ℕ) (bytes xs r : List ℕ) (more : Truth) → length bytes < suc n → ((t : ℕ) (before : List ℕ) (bs : List ℕ) → length bs < n → turns piece n before (t + length bs) bs ≡ Err p → OpenPieces before t bs)
+      → Goes true (Piece start) (λ end bs. piece_at start end done bs) s bytes (xs, more) r → turns_behind piece n (s + length bytes) done ((xs, more), r) ≡ Err p → OpenPieces done s bytes
   next_opened n s done bytes xs r false lt ih a e = absurd (value_is_none (done ++ xs, r) p e)
   next_opened n s done bytes xs r true lt ih a e =
       let k = a.kept in
-      let shift : turns n (done ++ xs) ((s + length a.front) + length r) r ≡ Err p = ap (λ (m : ℕ). turns n (done ++ xs) m r) (sym (ap (λ (l : List ℕ). s + length l) a.here ∙ behind_length s a.front r)) ∙ e in
+      let shift : turns piece n (done ++ xs) ((s + length a.front) + length r) r ≡ Err p = ap (λ (m : ℕ). turns piece n (done ++ xs) m r) (sym (ap (λ (l : List ℕ). s + length l) a.here ∙ behind_length s a.front r)) ∙ e in
       later_opened done s bytes xs r a (ih (s + length a.front) (done ++ xs) r (omega (arith, lt, ap length a.here, length-append a.front r, k.0)) shift)
 
-  open_pieces : (n s : ℕ) (done bytes : List ℕ) → length bytes < n → turns n done (s + length bytes) bytes ≡ Err p → Opened done s bytes
+  open_pieces : (n s : ℕ) (done bytes : List ℕ) → length bytes < n → turns piece n done (s + length bytes) bytes ≡ Err p → OpenPieces done s bytes
   open_pieces zero s done bytes lt h = absurd (omega arith)
   open_pieces (suc n) s done [] lt h =
-      let k : ◌≡◌ {A = Taken (List ℕ)} (Err (s + 0)) (Err p) = sym (one_turn n done (s + 0) [] ∙ ap (λ (q : Taken (List ℕ × Truth)). q >>= on n (s + 0) done) (no_piece done (s + 0))) ∙ h in
+      let k : ◌≡◌ {A = Taken (List ℕ)} (Err (s + 0)) (Err p) = sym (first_fails piece n done (s + 0) [] (s + 0) (no_piece done (s + 0))) ∙ h in
       nothing_open done s (omega (arith, err_is {A = List ℕ × List ℕ} (s + 0) p k))
   open_pieces (suc n) s done (b ∷ bs) lt h =
       let end = s + length (b ∷ bs) in
       let d = piece_decided start done s in
-      elim (bind_err (piece_at start end done (b ∷ bs)) (on n end done) p (sym (one_turn n done end (b ∷ bs)) ∙ h)) [
+      elim (bind_err (piece_at start end done (b ∷ bs)) (turns_behind piece n end done) p (sym (one_turn piece n done end (b ∷ bs)) ∙ h)) [
         | inl k ↦ piece_fault done s b bs k
         | inr one ↦ next_opened n s done (b ∷ bs) one.0.0.0 one.0.1 one.0.0.1 lt (λ t before rest l k. open_pieces n t before rest l k) (d.ok (b ∷ bs) one.0.0 one.0.1 one.1) one.2
       ]
@@ -379,7 +367,7 @@ module _ (start p : ℕ) (late : p ≢ start) where
   low_behind [] rest h u = u
   low_behind (b ∷ front) rest h u = let q = and_parts (ltb b 128) (list_all (λ c. ltb c 128) front) h in low_behind front rest q.1 (utf8_split [] b (front ++ rest) (ltb-true b 128 q.0) u).1
 
-  utf8_pieces : (n end : ℕ) (done bytes t rest : List ℕ) → turns n done end bytes ≡ Ok (t, rest) → IsUtf8 (done ++ bytes) → IsUtf8 t
+  utf8_pieces : (n end : ℕ) (done bytes t rest : List ℕ) → turns piece n done end bytes ≡ Ok (t, rest) → IsUtf8 (done ++ bytes) → IsUtf8 t
   unfolding steps_at piece_at
   utf8_pieces zero end done bytes t rest h u = absurd (fault_is_none (t, rest) end h)
   utf8_pieces (suc n) end done [] t rest h u = absurd (fault_is_none (t, rest) end h)
@@ -392,19 +380,19 @@ module _ (start p : ℕ) (late : p ≢ start) where
         | inr q ↦
             elim (cases_Bool (eqb b 92)) [
               | inl e ↦
-                  let k : ((escape_at start end bs >>= λ x. Ok ((x.0, true), x.1)) >>= on n end done) ≡ Ok (t, rest) = rw (q, e) at h in
-                  let one = bind_ok (escape_at start end bs >>= λ x. Ok ((x.0, true), x.1)) (on n end done) (t, rest) k in
+                  let k : ((escape_at start end bs >>= λ x. Ok ((x.0, true), x.1)) >>= turns_behind piece n end done) ≡ Ok (t, rest) = rw (q, e) at h in
+                  let one = bind_ok (escape_at start end bs >>= λ x. Ok ((x.0, true), x.1)) (turns_behind piece n end done) (t, rest) k in
                   let two = bind_ok (escape_at start end bs) (λ x. Ok ((x.0, true), x.1)) one.0 one.1 in
                   let m = escape_means start end bs two.0.0 two.0.1 two.1 in
                   let parts = utf8_split done b bs (omega (arith, eqb-true b 92 e)) u in
                   let tail : IsUtf8 two.0.1 = low_behind m.front two.0.1 m.low (subst IsUtf8 m.here parts.1) in
-                  let next : turns n (done ++ two.0.0) end two.0.1 ≡ Ok (t, rest) = ap (on n end done) (ok_is ((two.0.0, true), two.0.1) one.0 two.2) ∙ one.2 in
+                  let next : turns piece n (done ++ two.0.0) end two.0.1 ≡ Ok (t, rest) = ap (turns_behind piece n end done) (ok_is ((two.0.0, true), two.0.1) one.0 two.2) ∙ one.2 in
                   utf8_pieces n end (done ++ two.0.0) two.0.1 t rest next (IsUtf8-append (done ++ two.0.0) two.0.1 (IsUtf8-append done two.0.0 parts.0 m.utf8) tail)
               | inr e ↦
                   elim (cases_Bool (ltb b 32)) [
                     | inl l ↦ let k : ◌≡◌ {A = Taken (List ℕ)} (Err start) (Ok (t, rest)) = rw (q, e, l) at h in absurd (fault_is_none (t, rest) start k)
                     | inr l ↦
-                        let k : turns n (done ++ b ∷ []) end bs ≡ Ok (t, rest) = rw (q, e, l) at h in
+                        let k : turns piece n (done ++ b ∷ []) end bs ≡ Ok (t, rest) = rw (q, e, l) at h in
                         utf8_pieces n end (done ++ b ∷ []) bs t rest k (subst IsUtf8 (sym (append_assoc done (b ∷ []) bs)) u)
                   ]
             ]
@@ -422,7 +410,7 @@ module _ (start p : ℕ) (late : p ≢ start) where
     pub low : AreLow more
     pub always : (extra w : List ℕ) → AreA extra → run string_at (suc start) (front ++ ended more extra w) ≡ Ok (text ++ extra, w)
 
-  opened_string : (bytes : List ℕ) → IsUtf8 bytes → p ≡ suc start + length bytes → Opened [] (suc start) bytes → OpenString bytes
+  opened_string : (bytes : List ℕ) → IsUtf8 bytes → p ≡ suc start + length bytes → OpenPieces [] (suc start) bytes → OpenString bytes
   opened_string bytes u q o =
       let none : o.rest ≡ [] = no_rest o.rest (omega (arith, q, o.at, ap length o.here, length-append o.front o.rest)) in
       let front_utf8 : IsUtf8 o.front = subst IsUtf8 (o.here ∙ (ap (λ (l : List ℕ). o.front ++ l) none ∙ append-nil o.front)) u in

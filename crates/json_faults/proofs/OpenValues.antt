@@ -1,5 +1,5 @@
 -- A value that is refused can be completed from the place of the fault on.
-use Rattle.std.proofs.Common.{◌≡◌, ◌≢◌, ◌⊎◌, ℕ, zero, suc, ◌+◌, ◌<◌, Bool as Truth, true, false, cond, eqb, ltb, List, [], ◌∷◌, ◌++◌, length, Option, Some, None, Result, Ok, Err, refl, sym, ap, ◌∙◌, subst, inl, inr, append_assoc, arith}
+use Rattle.std.proofs.Common.{◌≡◌, ◌≢◌, ◌⊎◌, ℕ, zero, suc, ◌+◌, ◌<◌, Bool as Truth, true, false, eqb, ltb, List, [], ◌∷◌, ◌++◌, length, Option, Some, None, Result, Ok, Err, refl, sym, ap, ◌∙◌, subst, inl, inr, append_assoc, arith}
 use Rattle.std.specs.List.{list_all, position_from}
 use Rattle.std.specs.Str.{IsUtf8, bytes_eq}
 use Rattle.std.proofs.lemmas.Bool.{cases_Bool, and_parts, eqb-true, eq-eqb}
@@ -16,7 +16,8 @@ use Rattle.json_text.proofs.Strings.{string_read}
 use Rattle.json_faults.specs.Tokens.{is_part}
 use Rattle.json_faults.proofs.Decisions.{Step, run, Clean, MayFollow, Goes, IsDecided, err_is, value_is_none, bind_err, behind_length}
 use Rattle.json_faults.proofs.Numbers.{plain as alone_step, alone_then, space_decided, clean_space}
-use Rattle.json_faults.proofs.Values.{Free, Takes, InToken, IsTold, place_is, spaces, spaced, more_told, with_more, listed, listed_told, name_told, colon_told, item_told, named, with_colon, member_told, no_value, no_item, no_member, bracket_is, array_told, object_told, value_told, spaced_told}
+use Rattle.json_faults.proofs.Steps.{turns, turns_behind, one_turn, stepped}
+use Rattle.json_faults.proofs.Values.{Free, Takes, InToken, IsDecidedAnywhere, place_is, spaces, spaced, more_told, with_more, listed, listed_told, name_told, colon_told, item_told, named, with_colon, member_told, no_value, no_item, no_member, bracket_is, array_told, object_told, value_told, spaced_told}
 use Rattle.json_faults.proofs.Completions.{AreLow, low_append, Whatever, Completes, Fresh, at_start, behind_one, some_is_none, follows_first, none_before, IsCompletable, both, changed}
 use Rattle.json_faults.proofs.OpenStrings.{AreA, a_low, low_utf8, utf8_split, OpenString, open_string}
 use Rattle.json_faults.proofs.OpenNumbers.{cut_number, cut_word}
@@ -78,7 +79,7 @@ module _ (text : List ℕ) (utf8 : IsUtf8 text) (p : ℕ) where
   abbrev CanGoOn : {A : Type 0} → (A → Type 0) → Step A → Type 0
   CanGoOn R f = IsCompletable false IsTail p R f
 
-  goes : {A B : Type 0} (R : B → Type 0) (f : Step A) (g : A → Step B) (h : Step B) → ((end : ℕ) (bytes : List ℕ) → h end bytes ≡ (f end bytes >>= λ x. g x.0 end x.1)) → IsTold f → CanGoOn Whatever f → ((x : A) → CanGoOn R (g x)) → CanGoOn R h
+  goes : {A B : Type 0} (R : B → Type 0) (f : Step A) (g : A → Step B) (h : Step B) → ((end : ℕ) (bytes : List ℕ) → h end bytes ≡ (f end bytes >>= λ x. g x.0 end x.1)) → IsDecidedAnywhere f → CanGoOn Whatever f → ((x : A) → CanGoOn R (g x)) → CanGoOn R h
   goes R f g h made d first next = both false IsTail p later R Free InToken f g h made d first next
 
   spaces_go : CanGoOn Whatever spaces
@@ -145,19 +146,6 @@ module _ (text : List ℕ) (utf8 : IsUtf8 text) (p : ℕ) where
 
     module _ {A : Type 0} (step : ℕ → List A → List ℕ → Taken (List A × Truth)) (at_end : (end : ℕ) → step end [] [] ≡ Err end) (told : (done : List A) (s : ℕ) → IsDecided false Takes InToken (λ end bytes. step end done bytes) s)
         (go : (done : List A) → CanGoOn IsLastOf (λ end bytes. step end done bytes)) where
-      abbrev turns : ℕ → List A → ℕ → List ℕ → Taken (List A)
-      turns n done end bytes = steps_at (step end) n end done bytes
-
-      abbrev on : ℕ → ℕ → List A → (List A × Truth) × List ℕ → Taken (List A)
-      on n end done x = cond x.0.1 (turns n (done ++ x.0.0) end x.1) (Ok (done ++ x.0.0, x.1))
-
-      one_turn : (n : ℕ) (done : List A) (end : ℕ) (bytes : List ℕ) → turns (suc n) done end bytes ≡ (step end done bytes >>= on n end done)
-      unfolding steps_at
-      one_turn n done end bytes = refl
-
-      stepped : (n : ℕ) (done : List A) (x : List A × Truth) (end : ℕ) (bytes rest : List ℕ) (y : Taken (List A)) → step end done bytes ≡ Ok (x, rest) → on n end done (x, rest) ≡ y → turns (suc n) done end bytes ≡ y
-      stepped n done x end bytes rest y e k = one_turn n done end bytes ∙ (ap (λ (q : Taken (List A × Truth)). q >>= on n end done) e ∙ k)
-
       record Open (done : List A) (s : ℕ) (bytes : List ℕ) : Type 0 where
         front : List ℕ
         rest : List ℕ
@@ -167,14 +155,14 @@ module _ (text : List ℕ) (utf8 : IsUtf8 text) (p : ℕ) where
         at : p ≡ s + length front
         low : AreLow more
         clean : front ≡ [] → (w : List ℕ) → Clean w → Clean (more ++ w)
-        always : (w : List ℕ) (m : ℕ) → Clean w → length (front ++ (more ++ w)) < m → turns m done (s + length (front ++ (more ++ w))) (front ++ (more ++ w)) ≡ Ok (all, w)
+        always : (w : List ℕ) (m : ℕ) → Clean w → length (front ++ (more ++ w)) < m → turns step m done (s + length (front ++ (more ++ w))) (front ++ (more ++ w)) ≡ Ok (all, w)
 
       step_open : (done : List A) (s : ℕ) (bytes : List ℕ) → Completes false IsLastOf (λ end bs. step end done bs) s bytes p → Open done s bytes
       step_open done s bytes c = record { front = c.front; rest = c.rest; more = c.more; all = done ++ c.thing.0; here = c.here; at = c.at; low = c.low; clean = λ n w l. c.clean n w l; always = λ w m l lt. read w m l lt }
         where
-          read : (w : List ℕ) (m : ℕ) → Clean w → length (c.front ++ (c.more ++ w)) < m → turns m done (s + length (c.front ++ (c.more ++ w))) (c.front ++ (c.more ++ w)) ≡ Ok (done ++ c.thing.0, w)
+          read : (w : List ℕ) (m : ℕ) → Clean w → length (c.front ++ (c.more ++ w)) < m → turns step m done (s + length (c.front ++ (c.more ++ w))) (c.front ++ (c.more ++ w)) ≡ Ok (done ++ c.thing.0, w)
           read w zero l lt = absurd (omega arith)
-          read w (suc m) l lt = stepped m done c.thing (s + length (c.front ++ (c.more ++ w))) (c.front ++ (c.more ++ w)) w (Ok (done ++ c.thing.0, w)) (c.always w l) (rw c.made refl)
+          read w (suc m) l lt = stepped step m done c.thing (s + length (c.front ++ (c.more ++ w))) (c.front ++ (c.more ++ w)) w (Ok (done ++ c.thing.0, w)) (c.always w l) (rw c.made refl)
 
       abbrev StepRead : List A → ℕ → List ℕ → List A → Truth → List ℕ → Type 0
       StepRead done s bytes xs more r = Goes false Takes (λ end bs. step end done bs) s bytes (xs, more) r
@@ -190,33 +178,33 @@ module _ (text : List ℕ) (utf8 : IsUtf8 text) (p : ℕ) where
         low = o.low;
         clean = λ n w l. o.clean (none_before a.front o.front n).1 w l;
         always = λ w m l lt.
-            subst (λ (q : List ℕ). turns m done (s + length q) q ≡ Ok (o.all, w)) (sym (append_assoc a.front o.front (o.more ++ w)))
+            subst (λ (q : List ℕ). turns step m done (s + length q) q ≡ Ok (o.all, w)) (sym (append_assoc a.front o.front (o.more ++ w)))
             (read w m l (subst (λ (q : List ℕ). length q < m) (append_assoc a.front o.front (o.more ++ w)) lt));
       }
         where
-          read : (w : List ℕ) (m : ℕ) → Clean w → length (a.front ++ (o.front ++ (o.more ++ w))) < m → turns m done (s + length (a.front ++ (o.front ++ (o.more ++ w)))) (a.front ++ (o.front ++ (o.more ++ w))) ≡ Ok (o.all, w)
+          read : (w : List ℕ) (m : ℕ) → Clean w → length (a.front ++ (o.front ++ (o.more ++ w))) < m → turns step m done (s + length (a.front ++ (o.front ++ (o.more ++ w)))) (a.front ++ (o.front ++ (o.more ++ w))) ≡ Ok (o.all, w)
           read w zero l lt = absurd (omega arith)
           read w (suc m) l lt =
               let tail = o.front ++ (o.more ++ w) in
               let end = s + length (a.front ++ tail) in
               let follows : MayFollow false r tail = follows_first false r o.front o.rest o.more w o.here (λ n. o.clean n w l) in
               let fewer : length tail < m = omega (arith, lt, length-append a.front tail, a.kept) in
-              stepped m done (xs, true) end (a.front ++ tail) tail (Ok (o.all, w)) (a.always tail follows) (ap (λ (n : ℕ). turns m (done ++ xs) n tail) (behind_length s a.front tail) ∙ o.always w m l fewer)
+              stepped step m done (xs, true) end (a.front ++ tail) tail (Ok (o.all, w)) (a.always tail follows) (ap (λ (n : ℕ). turns step m (done ++ xs) n tail) (behind_length s a.front tail) ∙ o.always w m l fewer)
 
-      next_open : (n s : ℕ) (done : List A) (bytes : List ℕ) (xs : List A) (r : List ℕ) (more : Truth) → length bytes < suc n → IsTail bytes → ((t : ℕ) (before : List A) (bs : List ℕ) → length bs < n → IsTail bs → turns n before (t + length bs) bs ≡ Err p → Open before t bs)
-          → StepRead done s bytes xs more r → on n (s + length bytes) done ((xs, more), r) ≡ Err p → Open done s bytes
+      next_open : (n s : ℕ) (done : List A) (bytes : List ℕ) (xs : List A) (r : List ℕ) (more : Truth) → length bytes < suc n → IsTail bytes → ((t : ℕ) (before : List A) (bs : List ℕ) → length bs < n → IsTail bs → turns step n before (t + length bs) bs ≡ Err p → Open before t bs)
+          → StepRead done s bytes xs more r → turns_behind step n (s + length bytes) done ((xs, more), r) ≡ Err p → Open done s bytes
       next_open n s done bytes xs r false lt k ih a e = absurd (value_is_none (done ++ xs, r) p e)
       next_open n s done bytes xs r true lt k ih a e =
-          let shift : turns n (done ++ xs) ((s + length a.front) + length r) r ≡ Err p = ap (λ (m : ℕ). turns n (done ++ xs) m r) (sym (ap (λ (l : List ℕ). s + length l) a.here ∙ behind_length s a.front r)) ∙ e in
+          let shift : turns step n (done ++ xs) ((s + length a.front) + length r) r ≡ Err p = ap (λ (m : ℕ). turns step n (done ++ xs) m r) (sym (ap (λ (l : List ℕ). s + length l) a.here ∙ behind_length s a.front r)) ∙ e in
           later_open done s bytes xs r a (ih (s + length a.front) (done ++ xs) r (omega (arith, lt, ap length a.here, length-append a.front r, a.kept)) (later a.front r (subst IsTail a.here k)) shift)
 
-      open_steps : (n s : ℕ) (done : List A) (bytes : List ℕ) → length bytes < n → IsTail bytes → turns n done (s + length bytes) bytes ≡ Err p → Open done s bytes
+      open_steps : (n s : ℕ) (done : List A) (bytes : List ℕ) → length bytes < n → IsTail bytes → turns step n done (s + length bytes) bytes ≡ Err p → Open done s bytes
       open_steps zero s done bytes lt k h = absurd (omega arith)
       open_steps (suc n) s done bytes lt k h =
           let end = s + length bytes in
           let d = told done s in
           let c = go done in
-          elim (bind_err (step end done bytes) (on n end done) p (sym (one_turn n done end bytes) ∙ h)) [
+          elim (bind_err (step end done bytes) (turns_behind step n end done) p (sym (one_turn step n done end bytes) ∙ h)) [
             | inl e ↦ step_open done s bytes (c.complete s bytes k e)
             | inr one ↦ next_open n s done bytes one.0.0.0 one.0.1 one.0.0.1 lt k (λ t before bs l j e. open_steps n t before bs l j e) (d.ok bytes one.0.0 one.0.1 one.1) one.2
           ]
@@ -229,7 +217,7 @@ module _ (text : List ℕ) (utf8 : IsUtf8 text) (p : ℕ) where
       unfolding list_at closing
       list_fresh s = record { text = close ∷ []; thing = []; made = tt; low = is.low; clean = λ w l. (is.part, is.space); always = λ w l. rw (eq-eqb close close refl) refl }
 
-      list_steps : (s b : ℕ) (bs : List ℕ) → eqb b close ≡ false → run list s (b ∷ bs) ≡ turns (suc (length (b ∷ bs))) [] (s + length (b ∷ bs)) (b ∷ bs)
+      list_steps : (s b : ℕ) (bs : List ℕ) → eqb b close ≡ false → run list s (b ∷ bs) ≡ turns step (suc (length (b ∷ bs))) [] (s + length (b ∷ bs)) (b ∷ bs)
       unfolding list_at closing
       list_steps s b bs e = rw e refl
 
@@ -250,7 +238,7 @@ module _ (text : List ℕ) (utf8 : IsUtf8 text) (p : ℕ) where
             clean = λ n w l. absurd (some_is_none c front n);
             always = λ w l.
                 let body = front ++ (o.more ++ w) in
-                list_steps s c body other ∙ subst (λ (q : List ℕ). turns (suc (length (q ++ (o.more ++ w)))) [] (s + length (q ++ (o.more ++ w))) (q ++ (o.more ++ w)) ≡ Ok (o.all, w)) f (o.always w (suc (length (o.front ++ (o.more ++ w)))) l (omega arith));
+                list_steps s c body other ∙ subst (λ (q : List ℕ). turns step (suc (length (q ++ (o.more ++ w)))) [] (s + length (q ++ (o.more ++ w))) (q ++ (o.more ++ w)) ≡ Ok (o.all, w)) f (o.always w (suc (length (o.front ++ (o.more ++ w)))) l (omega arith));
           }
         where
           first_of : (b c : ℕ) (bs l : List ℕ) → b ∷ bs ≡ c ∷ l → b ≡ c
@@ -383,7 +371,7 @@ module _ (text : List ℕ) (utf8 : IsUtf8 text) (p : ℕ) where
 
   -- ---- items and members
 
-  module _ (read : Reader) (told : IsTold read) (go : CanGoOn Whatever read) where
+  module _ (read : Reader) (told : IsDecidedAnywhere read) (go : CanGoOn Whatever read) where
     item_go : (done : List Tree) → CanGoOn IsLastOf (λ end bytes. item_at read end done bytes)
     unfolding item_at
     item_go done = goes IsLastOf read (λ t. with_more 93 t) (λ end bytes. item_at read end done bytes) (λ end bytes. refl) told go (λ t. with_more_go 93 is_bracket t)
@@ -404,7 +392,7 @@ module _ (text : List ℕ) (utf8 : IsUtf8 text) (p : ℕ) where
 
   -- an array or an object behind its bracket, or a refusal of the bracket
   abbrev Inner : {A : Type 0} → Step A → Type 0
-  Inner f = (IsTold f × CanGoOn Whatever f) ⊎ ((s : ℕ) (bytes : List ℕ) → run f (suc s) bytes ≡ Err s)
+  Inner f = (IsDecidedAnywhere f × CanGoOn Whatever f) ⊎ ((s : ℕ) (bytes : List ℕ) → run f (suc s) bytes ≡ Err s)
 
   module _ (array : Step (List Tree)) (object : Step (List (List ℕ × Tree))) (arrays : Inner array) (objects : Inner object) where
     abbrev value : Step Tree
@@ -565,7 +553,7 @@ module _ (text : List ℕ) (utf8 : IsUtf8 text) (p : ℕ) where
 
   -- ---- arrays and objects
 
-  abbrev told_at : (n : ℕ) → IsTold (value_at n)
+  abbrev told_at : (n : ℕ) → IsDecidedAnywhere (value_at n)
   told_at n = value_told (array_at n) (object_at n) (array_told n) (object_told n)
 
   mutual

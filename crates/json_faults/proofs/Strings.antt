@@ -34,14 +34,14 @@ abbrev pub InEscape : ℕ → ℕ → List ℕ → ℕ → ℕ → Type 0
 InEscape start s u b p = (p ≡ start) × (e : Truth) × Inside true u e
 
 module _ (start : ℕ) where
-  abbrev Told : {A : Type 0} → Step A → ℕ → Type 0
-  Told f s = IsDecided true Within (InString start) f s
+  abbrev IsDecidedHere : {A : Type 0} → Step A → ℕ → Type 0
+  IsDecidedHere f s = IsDecided true Within (InString start) f s
 
-  both_told : {A B : Type 0} (f : Step A) (g : A → Step B) (h : Step B) (s : ℕ) → ((bytes : List ℕ) → run h s bytes ≡ (run f s bytes >>= λ x. g x.0 (s + length bytes) x.1)) → Told f s → ((x : A) (t : ℕ) → Told (g x) t) → Told h s
+  both_told : {A B : Type 0} (f : Step A) (g : A → Step B) (h : Step B) (s : ℕ) → ((bytes : List ℕ) → run h s bytes ≡ (run f s bytes >>= λ x. g x.0 (s + length bytes) x.1)) → IsDecidedHere f s → ((x : A) (t : ℕ) → IsDecidedHere (g x) t) → IsDecidedHere h s
   both_told f g h s made first second =
       bound true Within Within Within (InString start) f g h s made first (λ x c k. second x (s + length c)) (λ x y c d k l. inside_then false false false c d k l) (λ x c u b p k t. (t.0, t.1, inside_then false false t.1 c u k t.2))
 
-  no_more : {A : Type 0} (y : A) (s : ℕ) → Told (λ end bytes. Ok (y, bytes)) s
+  no_more : {A : Type 0} (y : A) (s : ℕ) → IsDecidedHere (λ end bytes. Ok (y, bytes)) s
   no_more y s = nothing true Within (InString start) y s refl
 
   -- ---- digits
@@ -69,14 +69,14 @@ module _ (start : ℕ) where
               goes_on (λ end bytes. Ok (v, bytes)) (λ bytes. rw (e, h) refl) (nothing true (λ x c. Within x (b ∷ c)) (λ t u c p. InString start s (b ∷ u) c p) v (suc s) (digit_inside b v e))
         ]
 
-    pub hex_decided : (s : ℕ) → Told hex s
+    pub hex_decided : (s : ℕ) → IsDecidedHere hex s
     unfolding hex_at
     hex_decided s = by_first true Within (InString start) hex s (ends (λ end. refl)) (λ b. hex_byte s b (hex_value b) refl)
 
   abbrev pub last_digit : ℕ → ℕ → Step ℕ
   last_digit high c end bytes = hex_at start end 0 15 bytes >>= λ d. Ok (256 * high + 16 * c + d.0, d.1)
 
-  pub unit_decided : (high s : ℕ) → Told (λ end bytes. unit_at start end high bytes) s
+  pub unit_decided : (high s : ℕ) → IsDecidedHere (λ end bytes. unit_at start end high bytes) s
   unfolding unit_at
   unit_decided high s =
       both_told (hex 0 15) (last_digit high) (λ end bytes. unit_at start end high bytes) s (λ bytes. refl) (hex_decided 0 15 s) (λ c t.
@@ -105,7 +105,7 @@ module _ (start : ℕ) where
   unfolding word_at
   back_byte s = goes_on only_u (λ bytes. ap (λ (n : ℕ). only_u n bytes) (omega arith)) (u_decided s)
 
-  pub slash_decided : (s : ℕ) → Told slash_u s
+  pub slash_decided : (s : ℕ) → IsDecidedHere slash_u s
   unfolding word_at
   slash_decided s =
       by_first true Within (InString start) slash_u s (ends (λ end. refl)) (λ b.
@@ -123,7 +123,7 @@ module _ (start : ℕ) where
   abbrev pub low_first : ℕ → Step (List ℕ)
   low_first unit end bytes = hex_at start end 13 13 bytes >>= λ a. low_second unit a.0 end a.1
 
-  pub low_decided : (unit s : ℕ) → Told (λ end bytes. low_at start end unit bytes) s
+  pub low_decided : (unit s : ℕ) → IsDecidedHere (λ end bytes. low_at start end unit bytes) s
   unfolding low_at
   low_decided unit s =
       both_told slash_u (λ x. low_first unit) (λ end bytes. low_at start end unit bytes) s
@@ -136,7 +136,7 @@ module _ (start : ℕ) where
   abbrev pub character : ℕ → Step (List ℕ)
   character unit end bytes = cond (ltb unit 55296 || ltb 57343 unit) (Ok (encode_utf8 unit, bytes)) (low_at start end unit bytes)
 
-  pub either : (unit s : ℕ) (t : Truth) → Told (λ end bytes. cond t (Ok (encode_utf8 unit, bytes)) (low_at start end unit bytes)) s
+  pub either : (unit s : ℕ) (t : Truth) → IsDecidedHere (λ end bytes. cond t (Ok (encode_utf8 unit, bytes)) (low_at start end unit bytes)) s
   either unit s true = no_more (encode_utf8 unit) s
   either unit s false = low_decided unit s
 
@@ -146,7 +146,7 @@ module _ (start : ℕ) where
   abbrev pub second : ℕ → Step (List ℕ)
   second a end bytes = hex_at start end 0 (cond (eqb a 13) 11 15) bytes >>= λ b. third (16 * a + b.0) end b.1
 
-  pub unicode_decided : (s : ℕ) → Told (λ end bytes. unicode_at start end bytes) s
+  pub unicode_decided : (s : ℕ) → IsDecidedHere (λ end bytes. unicode_at start end bytes) s
   unfolding unicode_at
   unicode_decided s =
       both_told (hex 0 15) second (λ end bytes. unicode_at start end bytes) s (λ bytes. refl) (hex_decided 0 15 s) (λ a t.

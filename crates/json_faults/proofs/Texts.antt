@@ -1,14 +1,15 @@
 -- A text is refused by the token at its place, whatever stands behind it.
 use Rattle.std.proofs.Common.{◌≡◌, ◌⊎◌, ℕ, ◌<◌, ◌≤◌, Bool as Truth, true, false, eqb, List, [], ◌∷◌, ◌++◌, length, take, drop, Err, refl, sym, ap, ◌∙◌, inl, inr, append_assoc, arith}
 use Rattle.std.proofs.lemmas.Bool.{cases_Bool}
-use Rattle.std.proofs.lemmas.List.{length-append, take-append-le, take_all}
+use Rattle.std.proofs.lemmas.List.{length-append}
+use Rattle.std.proofs.Math.Seq.{drop-append_seam}
 use Rattle.json_tree.specs.declared.tree.Tree.{Tree}
 use Rattle.json_text.specs.Reading.{◌>>=◌, place, after_space, value_at, ended, tree_of_text}
 use Rattle.json_text.proofs.Spelled.{json_read}
 use Rattle.json_faults.specs.Tokens.{is_part, word_from, string_from, token_from, up_to_token}
 use Rattle.json_faults.specs.Faults.{Continues, RefusedAtItsToken, RefusedWithin}
-use Rattle.json_faults.proofs.Decisions.{Step, run, Stops, err_is, fault_is_none, value_is_none, bind_err, ends, refuses, by_first}
-use Rattle.json_faults.proofs.Values.{InToken, Free, IsTold, itself, place_is, told_both, spaced, spaced_told, read_told}
+use Rattle.json_faults.proofs.Decisions.{Step, run, Stops, err_is, fault_is_none, value_is_none, bind_err, take-append, ends, refuses, by_first}
+use Rattle.json_faults.proofs.Values.{InToken, Free, IsDecidedAnywhere, itself, place_is, told_both, spaced, spaced_told, read_told}
 
 -- ---- the whole text
 
@@ -17,13 +18,13 @@ abbrev closed : Step (Unit {0})
 closed end [] = Err end
 closed end (b ∷ bytes) = Err (place end (b ∷ bytes))
 
-closed_told : IsTold closed
+closed_told : IsDecidedAnywhere closed
 closed_told s = by_first false Free InToken closed s (ends (λ end. refl)) (λ b. refuses s (λ bytes. ap (λ (n : ℕ). Err n) (place_is s (b ∷ bytes))) (itself s b))
 
 whole : Step (Unit {0})
 whole end bytes = value_at 256 end (after_space bytes) >>= λ x. closed end (after_space x.1)
 
-whole_told : IsTold whole
+whole_told : IsDecidedAnywhere whole
 unfolding whole
 whole_told s =
     told_both Free (spaced (value_at 256)) (λ t. spaced closed) whole s (λ bytes. refl) (spaced_told Free (value_at 256) s (read_told 256) (λ y c d k. tt)) (λ t r. spaced_told Free closed r closed_told (λ y c d k. tt)) (λ y c d k. tt)
@@ -102,13 +103,6 @@ longer (c ∷ d) (a ∷ k) r z b e lt =
     let v = longer d k r z b rest (omega arith) in
     (v.0, λ i. is i ∷ v.1 i)
 
-drop-append : (c r : List ℕ) → drop (length c) (c ++ r) ≡ r
-drop-append [] r = refl
-drop-append (b ∷ c) r = drop-append c r
-
-pub take-append : (c r : List ℕ) → take (length c) (c ++ r) ≡ c
-take-append c r = take-append-le (length c) c r (omega arith) ∙ take_all (length c) c (omega arith)
-
 -- ---- the law
 
 module _ (text : List ℕ) (p : ℕ) (a : Stops InToken whole 0 text p) where
@@ -129,7 +123,7 @@ module _ (text : List ℕ) (p : ℕ) (a : Stops InToken whole 0 text p) where
   front_is = ap (λ (n : ℕ). take n text) at ∙ (ap (λ (l : List ℕ). take (length before) l) here ∙ take-append before (own ++ a.byte ∷ a.behind))
 
   rest_is : drop p text ≡ own ++ a.byte ∷ a.behind
-  rest_is = ap (λ (n : ℕ). drop n text) at ∙ (ap (λ (l : List ℕ). drop (length before) l) here ∙ drop-append before (own ++ a.byte ∷ a.behind))
+  rest_is = ap (λ (n : ℕ). drop n text) at ∙ (ap (λ (l : List ℕ). drop (length before) l) here ∙ drop-append_seam before (own ++ a.byte ∷ a.behind))
 
   token_is : (v : List ℕ) × (token_from (drop p text) ≡ own ++ a.byte ∷ v)
   token_is =

@@ -77,8 +77,8 @@ in_string s u b p (at, e, h) = ([], 34 ∷ u, refl, omega (arith, at), λ z. tok
 in_word : (s : ℕ) (u : List ℕ) (b p : ℕ) → (p ≡ s) × AllParts u → InToken s u b p
 in_word s u b p (at, h) = ([], u, refl, omega (arith, at), λ z. token_word u b z h)
 
-abbrev pub IsTold : {A : Type 0} → Step A → Type 0
-IsTold f = (s : ℕ) → IsDecided false Free InToken f s
+abbrev pub IsDecidedAnywhere : {A : Type 0} → Step A → Type 0
+IsDecidedAnywhere f = (s : ℕ) → IsDecided false Free InToken f s
 
 pub place_is : (s : ℕ) (bytes : List ℕ) → place (s + length bytes) bytes ≡ s
 place_is s bytes = omega arith
@@ -149,7 +149,7 @@ module _ (close : ℕ) where
           | inr e ↦ alike refl steps (λ bytes. rw e refl) (steps_told s) (λ w c x k. absurd (omega (arith, k)))
         ])
 
-    pub listed_told : IsTold listed
+    pub listed_told : IsDecidedAnywhere listed
     listed_told s = eased false false Takes Free InToken InToken listed s (λ rest w m. m) (λ x c k. tt) (λ u b p t. t) (listed_takes s)
 
 -- ---- names and colons
@@ -228,7 +228,7 @@ unfolding name_at new_name
 name_quote done s = goes_on (new_name s done) (λ bytes.
     rw (place_is s (34 ∷ bytes)) (ap (λ (n : ℕ). new_name s done n bytes) (omega arith))) (new_name_told s done)
 
-pub name_told : (done : List (List ℕ × Tree)) → IsTold (λ end bytes. name_at end done bytes)
+pub name_told : (done : List (List ℕ × Tree)) → IsDecidedAnywhere (λ end bytes. name_at end done bytes)
 unfolding name_at
 name_told done s =
     by_first false Free InToken (λ end bytes. name_at end done bytes) s (ends (λ end. refl)) (λ b.
@@ -237,7 +237,7 @@ name_told done s =
       | inr e ↦ refuses s (λ bytes. rw e (ap (λ (n : ℕ). Err n) (place_is s (b ∷ bytes)))) (itself s b)
     ])
 
-pub colon_told : IsTold (plain colon_at)
+pub colon_told : IsDecidedAnywhere (plain colon_at)
 unfolding colon_at
 colon_told s =
     by_first false Free InToken (plain colon_at) s (ends (λ end. refl)) (λ b.
@@ -248,7 +248,7 @@ colon_told s =
 
 -- ---- items and members
 
-module _ (read : Reader) (told : IsTold read) where
+module _ (read : Reader) (told : IsDecidedAnywhere read) where
   pub item_told : (done : List Tree) (s : ℕ) → IsDecided false Takes InToken (λ end bytes. item_at read end done bytes) s
   unfolding item_at
   item_told done s = told_both Takes read (λ t. with_more 93 t) (λ end bytes. item_at read end done bytes) s (λ bytes. refl) (told s) (λ t r. with_more_told 93 t r) takes_more
@@ -276,7 +276,7 @@ module _ (read : Reader) (told : IsTold read) where
 
 -- an array or an object behind its bracket, or a refusal of the bracket
 abbrev pub Opens : {A : Type 0} → Step A → Type 0
-Opens f = IsTold f ⊎ ((s : ℕ) (bytes : List ℕ) → run f (suc s) bytes ≡ Err s)
+Opens f = IsDecidedAnywhere f ⊎ ((s : ℕ) (bytes : List ℕ) → run f (suc s) bytes ≡ Err s)
 
 module _ (array : Step (List Tree)) (object : Step (List (List ℕ × Tree))) (arrays : Opens array) (objects : Opens object) where
   abbrev pub value : Step Tree
@@ -359,7 +359,7 @@ module _ (array : Step (List Tree)) (object : Step (List (List ℕ × Tree))) (a
             ]
       ])
 
-  pub value_told : IsTold value
+  pub value_told : IsDecidedAnywhere value
   value_told s = eased false false Takes Free InToken InToken value s (λ rest w m. m) (λ x c k. tt) (λ u b p t. t) (value_takes s)
 
 -- ---- arrays and objects
@@ -397,5 +397,5 @@ mutual
       inl (λ s. spaced_told Free (listed 125 (member_at (value_at n)) none (member_told (value_at n) told)) s (listed_told 125 (member_at (value_at n)) none (member_told (value_at n) told)) (λ y c d k. tt))
 
 -- a value of at most so many levels
-pub read_told : (levels : ℕ) → IsTold (value_at levels)
+pub read_told : (levels : ℕ) → IsDecidedAnywhere (value_at levels)
 read_told levels = value_told (array_at levels) (object_at levels) (array_told levels) (object_told levels)
