@@ -1,8 +1,9 @@
 -- What a step reads is decided by bytes that it has looked at, whatever stands behind them.
-use Rattle.std.proofs.Common.{◌≡◌, ◌⊎◌, ℕ, suc, ◌+◌, Bool as Truth, true, false, List, [], ◌∷◌, ◌++◌, length, Result, Ok, Err, refl, sym, ap, ◌∙◌, subst, inl, inr, append_assoc, arith}
-use Rattle.std.proofs.lemmas.List.{length-append}
-use Rattle.json_text.specs.Reading.{◌>>=◌, Taken}
+use Rattle.std.proofs.Common.{◌≡◌, ◌⊎◌, ℕ, suc, ◌+◌, Bool as Truth, true, false, List, [], ◌∷◌, ◌++◌, length, take, Result, Ok, Err, refl, sym, ap, ◌∙◌, subst, inl, inr, append_assoc, arith}
+use Rattle.std.proofs.lemmas.List.{length-append, take-append-le, take_all}
+use Rattle.json_text.specs.Reading.{◌>>=◌, Taken, is_space}
 use Rattle.json_text.proofs.Found.{bind_ok, taken_is}
+use Rattle.json_faults.specs.Tokens.{is_part}
 
 -- a step, which is given the place at which the text ends and the bytes up to there
 abbrev pub Step : Type 0 → Type 0
@@ -12,20 +13,29 @@ Step A = ℕ → List ℕ → Taken A
 abbrev pub run : {A : Type 0} → Step A → ℕ → List ℕ → Taken A
 run f s bytes = f (s + length bytes) bytes
 
--- other bytes that may stand in the place of the rest: any, or those with the same first byte
+-- bytes that end a number, a word and white space
+abbrev pub Clean : List ℕ → Type 0
+Clean [] = Unit {0}
+Clean (b ∷ w) = (is_part b ≡ false) × (is_space b ≡ false)
+
+-- the second begins with the first byte of the first
+abbrev pub SameFirst : List ℕ → List ℕ → Type 0
+SameFirst [] w = ⊥
+SameFirst (b ∷ z) w = (v : List ℕ) × (w ≡ b ∷ v)
+
+-- other bytes that may stand in the place of the rest: any, or those with the same first byte, and clean ones
 abbrev pub MayFollow : Truth → List ℕ → List ℕ → Type 0
 MayFollow true rest w = Unit {0}
-MayFollow false [] w = ⊥
-MayFollow false (b ∷ z) w = (v : List ℕ) × (w ≡ b ∷ v)
+MayFollow false rest w = SameFirst rest w ⊎ Clean w
 
 pub follow_behind : (any : Truth) (d rest w : List ℕ) → MayFollow any rest w → MayFollow any (d ++ rest) (d ++ w)
 follow_behind true d rest w h = tt
 follow_behind false [] rest w h = h
-follow_behind false (b ∷ d) rest w h = (d ++ w, refl)
+follow_behind false (b ∷ d) rest w h = inl (d ++ w, refl)
 
 follow_first : (any : Truth) (b : ℕ) (z w : List ℕ) → MayFollow any (b ∷ z) (b ∷ w)
 follow_first true b z w = tt
-follow_first false b z w = (w, refl)
+follow_first false b z w = inl (w, refl)
 
 pub follow_same : (any : Truth) (d : List ℕ) (b : ℕ) (z w : List ℕ) → MayFollow any (d ++ b ∷ z) (d ++ b ∷ w)
 follow_same any d b z w = follow_behind any d (b ∷ z) (b ∷ w) (follow_first any b z w)
@@ -65,6 +75,9 @@ value_is_none x p h = absurd cc
 pub bind_err : {A B : Type 0} (r : Result A ℕ) (k : A → Result B ℕ) (p : ℕ) → (r >>= k) ≡ Err p → (r ≡ Err p) ⊎ ((x : A) × (r ≡ Ok x) × (k x ≡ Err p))
 bind_err (Ok x) k p h = inr (x, refl, h)
 bind_err {A} (Err e) k p h = let is : e ≡ p = cc in inl (ap (λ (n : ℕ). Err n) is)
+
+pub take-append : (c r : List ℕ) → take (length c) (c ++ r) ≡ c
+take-append c r = take-append-le (length c) c r (omega arith) ∙ take_all (length c) c (omega arith)
 
 pub behind_length : (s : ℕ) (c r : List ℕ) → s + length (c ++ r) ≡ (s + length c) + length r
 behind_length s c r = omega (arith, length-append c r)
@@ -158,33 +171,42 @@ eased any less P Q S T f s l k t d = record {
 
 -- ---- a step by its first byte
 
-first_same : (b : ℕ) (bs front rest w : List ℕ) → b ∷ bs ≡ front ++ rest → MayFollow false rest w → (v : List ℕ) × (front ++ w ≡ b ∷ v)
+first_same : (b : ℕ) (bs front rest w : List ℕ) → b ∷ bs ≡ front ++ rest → SameFirst rest w → (v : List ℕ) × (front ++ w ≡ b ∷ v)
 first_same b bs [] [] w e m = absurd m
 first_same b bs [] (c ∷ rest) w e (v, m) = let is : c ≡ b = cc in (v, m ∙ ap (λ (n : ℕ). n ∷ v) is)
 first_same b bs (c ∷ front) rest w e m = let is : c ≡ b = cc in (front ++ w, ap (λ (n : ℕ). n ∷ (front ++ w)) is)
+
+first_or_clean : (b : ℕ) (bs front rest w : List ℕ) → b ∷ bs ≡ front ++ rest → MayFollow false rest w → ((v : List ℕ) × (front ++ w ≡ b ∷ v)) ⊎ ((front ≡ []) × Clean w)
+first_or_clean b bs [] rest w e (inl m) = inl (first_same b bs [] rest w e m)
+first_or_clean b bs [] rest w e (inr c) = inr (refl, c)
+first_or_clean b bs (a ∷ front) rest w e m = let is : a ≡ b = cc in inl (front ++ w, ap (λ (n : ℕ). n ∷ (front ++ w)) is)
 
 module _ {A : Type 0} (any : Truth) (Q : A → List ℕ → Type 0) (T : ℕ → List ℕ → ℕ → ℕ → Type 0) (h : Step A) (s : ℕ) where
   -- what is done at the end of the text
   pub data AtEnd : Type 0 where
     ends : ((end : ℕ) → h end [] ≡ Err end) → AtEnd
-    passes : any ≡ false → (x : A) → Q x [] → ((end : ℕ) → h end [] ≡ Ok (x, [])) → AtEnd
+    passes : any ≡ false → (x : A) → Q x [] → ((end : ℕ) → h end [] ≡ Ok (x, [])) → ((w : List ℕ) → Clean w → run h s w ≡ Ok (x, w)) → AtEnd
 
   -- what is done at this byte: another step behind it, or a refusal, or another step from it on
   pub data AtByte (b : ℕ) : Type 0 where
     goes_on : (k : Step A) → ((bytes : List ℕ) → run h s (b ∷ bytes) ≡ run k (suc s) bytes) → IsDecided any (λ x c. Q x (b ∷ c)) (λ t u c p. T s (b ∷ u) c p) k (suc s) → AtByte b
     refuses : (p : ℕ) → ((bytes : List ℕ) → run h s (b ∷ bytes) ≡ Err p) → T s [] b p → AtByte b
-    alike : any ≡ false → (k : Step A) → ((bytes : List ℕ) → run h s (b ∷ bytes) ≡ run k s (b ∷ bytes)) → IsDecided false Q T k s → AtByte b
+    alike : any ≡ false → (k : Step A) → ((bytes : List ℕ) → run h s (b ∷ bytes) ≡ run k s (b ∷ bytes)) → IsDecided false Q T k s → ((w : List ℕ) → Clean w → (x : A) → Q x [] → run h s w ≡ run k s w) → AtByte b
 
   module _ (at_end : AtEnd) (at_byte : (b : ℕ) → AtByte b) where
     end_goes : AtEnd → (x : A) (rest : List ℕ) → run h s [] ≡ Ok (x, rest) → Goes any Q h s [] x rest
     end_goes (ends n) x rest e = absurd (fault_is_none (x, rest) _ (sym (n _) ∙ e))
-    end_goes (passes a y q n) x rest e =
+    end_goes (passes a y q n clean) x rest e =
         let same = taken_is y x [] rest (sym (n _) ∙ e) in
         record {
           front = [];
           here = same.1;
           kept = subst (λ (z : A). Q z []) same.0 q;
-          always = λ w m. absurd (subst (λ (r : List ℕ). MayFollow false r w) (sym same.1) (subst (λ (t : Truth). MayFollow t rest w) a m));
+          always = λ w m.
+              elim (subst (λ (r : List ℕ). MayFollow false r w) (sym same.1) (subst (λ (t : Truth). MayFollow t rest w) a m)) [
+                | inl n ↦ absurd n
+                | inr c ↦ clean w c ∙ ap (λ (z : A). Ok (z, w)) same.0
+              ];
         }
 
     byte_goes : (b : ℕ) (bs : List ℕ) (x : A) (rest : List ℕ) → AtByte b → run h s (b ∷ bs) ≡ Ok (x, rest) → Goes any Q h s (b ∷ bs) x rest
@@ -192,7 +214,7 @@ module _ {A : Type 0} (any : Truth) (Q : A → List ℕ → Type 0) (T : ℕ →
         let a = d.ok bs x rest (sym (m bs) ∙ e) in
         record { front = b ∷ a.front; here = ap (λ (l : List ℕ). b ∷ l) a.here; kept = a.kept; always = λ w l. m (a.front ++ w) ∙ a.always w l }
     byte_goes b bs x rest (refuses p m t) e = absurd (fault_is_none (x, rest) p (sym (m bs) ∙ e))
-    byte_goes b bs x rest (alike weak k m d) e =
+    byte_goes b bs x rest (alike weak k m d clean) e =
         let a = d.ok (b ∷ bs) x rest (sym (m bs) ∙ e) in
         record {
           front = a.front;
@@ -200,9 +222,11 @@ module _ {A : Type 0} (any : Truth) (Q : A → List ℕ → Type 0) (T : ℕ →
           kept = a.kept;
           always = λ w l.
               let q : MayFollow false rest w = subst (λ (t : Truth). MayFollow t rest w) weak l in
-              let v = first_same b bs a.front rest w a.here q in
-              let same : run h s (a.front ++ w) ≡ run k s (a.front ++ w) = subst (λ (r : List ℕ). run h s r ≡ run k s r) (sym v.1) (m v.0) in
-              same ∙ a.always w q;
+              elim (first_or_clean b bs a.front rest w a.here q) [
+                | inl v ↦ subst (λ (r : List ℕ). run h s r ≡ run k s r) (sym v.1) (m v.0) ∙ a.always w q
+                | inr c ↦
+                    subst (λ (r : List ℕ). run h s (r ++ w) ≡ run k s (r ++ w)) (sym c.0) (clean w c.1 x (subst (Q x) c.0 a.kept)) ∙ a.always w q
+              ];
         }
 
     byte_stops : (b : ℕ) (bs : List ℕ) (p : ℕ) → AtByte b → run h s (b ∷ bs) ≡ Err p → (p ≡ s + length (b ∷ bs)) ⊎ Stops T h s (b ∷ bs) p
@@ -214,7 +238,7 @@ module _ {A : Type 0} (any : Truth) (Q : A → List ℕ → Type 0) (T : ℕ →
     byte_stops b bs p (refuses q m t) e =
         let is : q ≡ p = err_is {A = A × List ℕ} q p (sym (m bs) ∙ e) in
         inr (record { front = []; byte = b; behind = bs; here = refl; told = subst (λ (n : ℕ). T s [] b n) is t; always = λ w. m w ∙ ap (λ (n : ℕ). Err n) is })
-    byte_stops b bs p (alike weak k m d) e =
+    byte_stops b bs p (alike weak k m d clean) e =
         elim (d.err (b ∷ bs) p (sym (m bs) ∙ e)) [
           | inl q ↦ inl q
           | inr a ↦
@@ -233,7 +257,7 @@ module _ {A : Type 0} (any : Truth) (Q : A → List ℕ → Type 0) (T : ℕ →
 
     end_stops : AtEnd → (p : ℕ) → run h s [] ≡ Err p → p ≡ s + length {A = ℕ} []
     end_stops (ends n) p e = sym (err_is {A = A × List ℕ} _ p (sym (n _) ∙ e))
-    end_stops (passes a y q n) p e = absurd (value_is_none (y, []) p (sym (n _) ∙ e))
+    end_stops (passes a y q n clean) p e = absurd (value_is_none (y, []) p (sym (n _) ∙ e))
 
     goes_first : (bytes : List ℕ) (x : A) (rest : List ℕ) → run h s bytes ≡ Ok (x, rest) → Goes any Q h s bytes x rest
     goes_first [] x rest e = end_goes at_end x rest e

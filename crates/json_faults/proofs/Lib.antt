@@ -4,3 +4,9 @@ pub mod Steps
 pub mod Strings
 pub mod Values
 pub mod Texts
+pub mod Completions
+pub mod Escapes
+pub mod OpenStrings
+pub mod OpenNumbers
+pub mod OpenValues
+pub mod Fronts

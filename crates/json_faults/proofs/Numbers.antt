@@ -1,14 +1,14 @@
 -- Words and numbers are decided by their own bytes, and by the byte behind a number.
-use Rattle.std.proofs.Common.{◌≡◌, ℕ, suc, ◌+◌, ◌-◌, Bool as Truth, true, false, ◌||◌, eqb, List, [], ◌∷◌, ◌++◌, length, take, Result, Ok, Err, refl, sym, ap, ◌∙◌, subst, inl, inr, arith}
+use Rattle.std.proofs.Common.{◌≡◌, ℕ, suc, ◌+◌, ◌-◌, ◌<◌, Bool as Truth, true, false, ◌||◌, eqb, List, [], ◌∷◌, ◌++◌, length, take, Result, Ok, Err, refl, sym, ap, ◌∙◌, subst, inl, inr, arith}
 use Rattle.std.specs.List.{list_all}
 use Rattle.std.specs.Str.{is_utf8}
 use Rattle.std.proofs.lemmas.Bool.{cases_Bool, and_parts, eqb-true}
 use Rattle.json_tree.specs.Numbers.{IsNumber, is_digit}
 use Rattle.json_text.specs.Reading.{◌>>=◌, Taken, is_space, after_space, word_at, after_digits, digits_at, whole_at, after_minus, after_sign, fraction_at, exponent_at, after_number, as_text, number_at}
 use Rattle.json_text.proofs.Found.{bind_ok, taken_is, text_found, number_taken}
-use Rattle.json_text.proofs.Numerals.{number_read, taken}
+use Rattle.json_text.proofs.Numerals.{number_read, number_first, taken}
 use Rattle.json_faults.specs.Tokens.{is_part}
-use Rattle.json_faults.proofs.Decisions.{Step, run, MayFollow, IsDecided, err_is, fault_is_none, value_is_none, bind_err, bound, nothing, eased, ends, passes, AtByte, goes_on, refuses, alike, by_first}
+use Rattle.json_faults.proofs.Decisions.{Step, run, Clean, MayFollow, IsDecided, err_is, fault_is_none, value_is_none, bind_err, bound, nothing, eased, ends, passes, AtByte, goes_on, refuses, alike, by_first}
 
 -- what is behind, beside nothing
 abbrev pub alone : Result (List ℕ) ℕ → Taken (Unit {0})
@@ -42,6 +42,9 @@ AllParts c = list_all is_part c ≡ true
 
 abbrev pub AreParts : {A : Type 0} → A → List ℕ → Type 0
 AreParts x c = AllParts c
+
+abbrev pub IsNumeral : List ℕ → List ℕ → Type 0
+IsNumeral t c = AllParts c × (0 < length c)
 
 -- within the token that began at this place
 abbrev pub InWord : ℕ → ℕ → List ℕ → ℕ → ℕ → Type 0
@@ -86,7 +89,8 @@ module _ (start : ℕ) where
 
 -- ---- digits and white space: what is passed over ends at the first other byte
 
-module _ (after : List ℕ → List ℕ) (test : ℕ → Truth) (none : after [] ≡ []) (more : (b : ℕ) (bs : List ℕ) → test b ≡ true → after (b ∷ bs) ≡ after bs) (stop : (b : ℕ) (bs : List ℕ) → test b ≡ false → after (b ∷ bs) ≡ b ∷ bs) where
+module _ (after : List ℕ → List ℕ) (test : ℕ → Truth) (none : after [] ≡ []) (more : (b : ℕ) (bs : List ℕ) → test b ≡ true → after (b ∷ bs) ≡ after bs) (stop : (b : ℕ) (bs : List ℕ) → test b ≡ false → after (b ∷ bs) ≡ b ∷ bs)
+    (clean : (w : List ℕ) → Clean w → after w ≡ w) where
   record Passes (bytes : List ℕ) : Type 0 where
     front : List ℕ
     here : bytes ≡ front ++ after bytes
@@ -94,14 +98,18 @@ module _ (after : List ℕ → List ℕ) (test : ℕ → Truth) (none : after []
     always : (w : List ℕ) → MayFollow false (after bytes) w → after (front ++ w) ≡ w
 
   none_passed : Passes []
-  none_passed = record { front = []; here = sym none; kept = refl; always = λ w m. absurd (subst (λ (r : List ℕ). MayFollow false r w) none m) }
+  none_passed = record { front = []; here = sym none; kept = refl; always = λ w m. elim (subst (λ (r : List ℕ). MayFollow false r w) none m) [ inl n ↦ absurd n | inr c ↦ clean w c ] }
 
   stopped : (b : ℕ) (bs : List ℕ) → test b ≡ false → Passes (b ∷ bs)
   stopped b bs h = record {
     front = [];
     here = sym (stop b bs h);
     kept = refl;
-    always = λ w m. let v : MayFollow false (b ∷ bs) w = subst (λ (r : List ℕ). MayFollow false r w) (stop b bs h) m in ap after v.1 ∙ (stop b v.0 h ∙ sym v.1);
+    always = λ w m.
+        elim (subst (λ (r : List ℕ). MayFollow false r w) (stop b bs h) m) [
+          | inl v ↦ ap after v.1 ∙ (stop b v.0 h ∙ sym v.1)
+          | inr c ↦ clean w c
+        ];
   }
 
   one_passed : (b : ℕ) (bs : List ℕ) → test b ≡ true → Passes bs → Passes (b ∷ bs)
@@ -155,9 +163,49 @@ none_space : after_space [] ≡ []
 unfolding after_space
 none_space = refl
 
+pub clean_space : (w : List ℕ) → Clean w → after_space w ≡ w
+clean_space [] c = none_space
+clean_space (b ∷ w) c = stop_space b w c.1
+
+-- a byte of no number or word is none of these
+pub not_part : (b n : ℕ) → is_part n ≡ true → is_part b ≡ false → eqb b n ≡ false
+not_part b n h c = elim (cases_Bool (eqb b n)) [ inl e ↦ let t : true ≡ false = sym (ap is_part (eqb-true b n e) ∙ h) ∙ c in absurd cc | inr e ↦ e ]
+
+no_digit : (b : ℕ) → is_part b ≡ false → is_digit b ≡ false
+no_digit b c = elim (cases_Bool (is_digit b)) [ inl e ↦ let t : true ≡ false = sym (digit_part b e) ∙ c in absurd cc | inr e ↦ e ]
+
+pub clean_digits : (w : List ℕ) → Clean w → after_digits w ≡ w
+clean_digits [] c = none_digits
+clean_digits (b ∷ w) c = stop_digits b w (no_digit b c.0)
+
+pub clean_minus : (w : List ℕ) → Clean w → after_minus w ≡ w
+unfolding after_minus
+clean_minus [] c = refl
+clean_minus (b ∷ w) c = rw (not_part b 45 refl c.0) refl
+
+clean_sign : (w : List ℕ) → Clean w → after_sign w ≡ w
+unfolding after_sign
+clean_sign [] c = refl
+clean_sign (b ∷ w) c = rw (not_part b 43 refl c.0, not_part b 45 refl c.0) refl
+
+pub clean_fraction : (start end : ℕ) (w : List ℕ) → Clean w → fraction_at start end w ≡ Ok w
+unfolding fraction_at
+clean_fraction start end [] c = refl
+clean_fraction start end (b ∷ w) c = rw (not_part b 46 refl c.0) refl
+
+pub clean_exponent : (start end : ℕ) (w : List ℕ) → Clean w → exponent_at start end w ≡ Ok w
+unfolding exponent_at
+clean_exponent start end [] c = refl
+clean_exponent start end (b ∷ w) c = rw (not_part b 101 refl c.0, not_part b 69 refl c.0) refl
+
+clean_whole : (start end : ℕ) (w : List ℕ) → Clean w → whole_at start end w ≡ digits_at start end w
+unfolding whole_at digits_at
+clean_whole start end [] c = refl
+clean_whole start end (b ∷ w) c = rw (not_part b 48 refl c.0) refl
+
 -- white space and a value beside it
 pub space_decided : {A : Type 0} (Q : A → List ℕ → Type 0) (T : ℕ → List ℕ → ℕ → ℕ → Type 0) (y : A) (s : ℕ) → ((c : List ℕ) → Q y c) → IsDecided false Q T (λ end bytes. Ok (y, after_space bytes)) s
-space_decided Q T y s k = passing after_space is_space none_space more_space stop_space Q T y s (λ c h. k c)
+space_decided Q T y s k = passing after_space is_space none_space more_space stop_space clean_space Q T y s (λ c h. k c)
 
 digit_parts : (c : List ℕ) → list_all is_digit c ≡ true → AllParts c
 digit_parts [] h = refl
@@ -166,16 +214,16 @@ digit_parts (b ∷ c) h = let p = and_parts (is_digit b) (list_all is_digit c) h
 -- ---- numbers
 
 module _ (start : ℕ) where
-  abbrev Told : Step (Unit {0}) → ℕ → Type 0
-  Told f s = IsDecided false AreParts (InWord start) f s
+  abbrev IsDecidedHere : Step (Unit {0}) → ℕ → Type 0
+  IsDecidedHere f s = IsDecided false AreParts (InWord start) f s
 
-  rest_decided : (s : ℕ) → Told (λ end bytes. Ok (tt, after_digits bytes)) s
-  rest_decided s = passing after_digits is_digit none_digits more_digits stop_digits AreParts (InWord start) tt s digit_parts
+  rest_decided : (s : ℕ) → IsDecidedHere (λ end bytes. Ok (tt, after_digits bytes)) s
+  rest_decided s = passing after_digits is_digit none_digits more_digits stop_digits clean_digits AreParts (InWord start) tt s digit_parts
 
   abbrev first_of : (Step (Unit {0})) → ℕ → Type 0
   first_of f s = (b : ℕ) → AtByte false AreParts (InWord start) f s b
 
-  digits_decided : (s : ℕ) → Told (plain (digits_at start)) s
+  digits_decided : (s : ℕ) → IsDecidedHere (plain (digits_at start)) s
   unfolding digits_at
   digits_decided s =
       by_first false AreParts (InWord start) (plain (digits_at start)) s (ends (λ end. refl)) (λ b.
@@ -188,28 +236,28 @@ module _ (start : ℕ) where
   here_then : (b : ℕ) (s : ℕ) (h : Step (Unit {0})) → is_part b ≡ true → ((bytes : List ℕ) → run h s (b ∷ bytes) ≡ Ok (tt, bytes)) → AtByte false AreParts (InWord start) h s b
   here_then b s h part e = goes_on (λ end bytes. Ok (tt, bytes)) e (behind_part start false b (λ end bytes. Ok (tt, bytes)) s part (no_more start false tt (suc s)))
 
-  as_it_is : (b : ℕ) (s : ℕ) (h : Step (Unit {0})) → ((bytes : List ℕ) → run h s (b ∷ bytes) ≡ Ok (tt, b ∷ bytes)) → AtByte false AreParts (InWord start) h s b
-  as_it_is b s h e = alike refl (λ end bytes. Ok (tt, bytes)) e (no_more start false tt s)
+  as_it_is : (b : ℕ) (s : ℕ) (h : Step (Unit {0})) → ((bytes : List ℕ) → run h s (b ∷ bytes) ≡ Ok (tt, b ∷ bytes)) → ((w : List ℕ) → Clean w → run h s w ≡ Ok (tt, w)) → AtByte false AreParts (InWord start) h s b
+  as_it_is b s h e clean = alike refl (λ end bytes. Ok (tt, bytes)) e (no_more start false tt s) (λ w c x k. clean w c)
 
   part_is : (b n : ℕ) → is_part n ≡ true → eqb b n ≡ true → is_part b ≡ true
   part_is b n h e = subst (λ (m : ℕ). is_part m ≡ true) (sym (eqb-true b n e)) h
 
-  whole_decided : (s : ℕ) → Told (plain (whole_at start)) s
+  whole_decided : (s : ℕ) → IsDecidedHere (plain (whole_at start)) s
   unfolding whole_at
   whole_decided s =
       by_first false AreParts (InWord start) (plain (whole_at start)) s (ends (λ end. refl)) (λ b.
       elim (cases_Bool (eqb b 48)) [
         | inl e ↦ here_then b s (plain (whole_at start)) (part_is b 48 refl e) (λ bytes. rw e refl)
-        | inr e ↦ alike refl (plain (digits_at start)) (λ bytes. rw e refl) (digits_decided s)
+        | inr e ↦ alike refl (plain (digits_at start)) (λ bytes. rw e refl) (digits_decided s) (λ w c x k. ap alone (clean_whole start (s + length w) w c))
       ])
 
-  minus_decided : (s : ℕ) → Told (λ end bytes. Ok (tt, after_minus bytes)) s
+  minus_decided : (s : ℕ) → IsDecidedHere (λ end bytes. Ok (tt, after_minus bytes)) s
   unfolding after_minus
   minus_decided s =
-      by_first false AreParts (InWord start) (λ end bytes. Ok (tt, after_minus bytes)) s (passes refl tt refl (λ end. refl)) (λ b.
+      by_first false AreParts (InWord start) (λ end bytes. Ok (tt, after_minus bytes)) s (passes refl tt refl (λ end. refl) (λ w c. ap (λ (l : List ℕ). Ok (tt, l)) (clean_minus w c))) (λ b.
       elim (cases_Bool (eqb b 45)) [
         | inl e ↦ here_then b s (λ end bytes. Ok (tt, after_minus bytes)) (part_is b 45 refl e) (λ bytes. rw e refl)
-        | inr e ↦ as_it_is b s (λ end bytes. Ok (tt, after_minus bytes)) (λ bytes. rw e refl)
+        | inr e ↦ as_it_is b s (λ end bytes. Ok (tt, after_minus bytes)) (λ bytes. rw e refl) (λ w c. ap (λ (l : List ℕ). Ok (tt, l)) (clean_minus w c))
       ])
 
   sign_case : (b : ℕ) (x y : Truth) → eqb b 43 ≡ x → eqb b 45 ≡ y → (x || y) ≡ true → is_part b ≡ true
@@ -217,35 +265,35 @@ module _ (start : ℕ) where
   sign_case b false true e f h = part_is b 45 refl f
   sign_case b false false e f h = absurd cc
 
-  sign_decided : (s : ℕ) → Told (λ end bytes. Ok (tt, after_sign bytes)) s
+  sign_decided : (s : ℕ) → IsDecidedHere (λ end bytes. Ok (tt, after_sign bytes)) s
   unfolding after_sign
   sign_decided s =
-      by_first false AreParts (InWord start) (λ end bytes. Ok (tt, after_sign bytes)) s (passes refl tt refl (λ end. refl)) (λ b.
+      by_first false AreParts (InWord start) (λ end bytes. Ok (tt, after_sign bytes)) s (passes refl tt refl (λ end. refl) (λ w c. ap (λ (l : List ℕ). Ok (tt, l)) (clean_sign w c))) (λ b.
       elim (cases_Bool (eqb b 43 || eqb b 45)) [
         | inl e ↦ here_then b s (λ end bytes. Ok (tt, after_sign bytes)) (sign_case b (eqb b 43) (eqb b 45) refl refl e) (λ bytes. rw e refl)
-        | inr e ↦ as_it_is b s (λ end bytes. Ok (tt, after_sign bytes)) (λ bytes. rw e refl)
+        | inr e ↦ as_it_is b s (λ end bytes. Ok (tt, after_sign bytes)) (λ bytes. rw e refl) (λ w c. ap (λ (l : List ℕ). Ok (tt, l)) (clean_sign w c))
       ])
 
   -- one plain step behind the other
-  both_decided : (f g h : Step (Unit {0})) (s : ℕ) → ((bytes : List ℕ) → run h s bytes ≡ (run f s bytes >>= λ x. g (s + length bytes) x.1)) → Told f s → ((t : ℕ) → Told g t) → Told h s
+  both_decided : (f g h : Step (Unit {0})) (s : ℕ) → ((bytes : List ℕ) → run h s bytes ≡ (run f s bytes >>= λ x. g (s + length bytes) x.1)) → IsDecidedHere f s → ((t : ℕ) → IsDecidedHere g t) → IsDecidedHere h s
   both_decided f g h s made first second =
       bound false AreParts AreParts AreParts (InWord start) f (λ x. g) h s made first (λ x c k. second (s + length c)) (λ x y c d k l. all_parts c d k l) (λ x c u b p k t. (t.0, all_parts c u k t.1))
 
   signed : Step (Unit {0})
   signed end bytes = alone (digits_at start end (after_sign bytes))
 
-  signed_decided : (s : ℕ) → Told signed s
+  signed_decided : (s : ℕ) → IsDecidedHere signed s
   unfolding signed
   signed_decided s = both_decided (λ end bytes. Ok (tt, after_sign bytes)) (plain (digits_at start)) signed s (λ bytes. refl) (sign_decided s) digits_decided
 
-  fraction_decided : (s : ℕ) → Told (plain (fraction_at start)) s
+  fraction_decided : (s : ℕ) → IsDecidedHere (plain (fraction_at start)) s
   unfolding fraction_at
   fraction_decided s =
-      by_first false AreParts (InWord start) (plain (fraction_at start)) s (passes refl tt refl (λ end. refl)) (λ b.
+      by_first false AreParts (InWord start) (plain (fraction_at start)) s (passes refl tt refl (λ end. refl) (λ w c. ap alone (clean_fraction start (s + length w) w c))) (λ b.
       elim (cases_Bool (eqb b 46)) [
         | inl e ↦
             goes_on (plain (digits_at start)) (λ bytes. rw e (ap (λ (n : ℕ). plain (digits_at start) n bytes) (omega arith))) (behind_part start false b (plain (digits_at start)) s (part_is b 46 refl e) (digits_decided (suc s)))
-        | inr e ↦ as_it_is b s (plain (fraction_at start)) (λ bytes. rw e refl)
+        | inr e ↦ as_it_is b s (plain (fraction_at start)) (λ bytes. rw e refl) (λ w c. ap alone (clean_fraction start (s + length w) w c))
       ])
 
   mark_case : (b : ℕ) (x y : Truth) → eqb b 101 ≡ x → eqb b 69 ≡ y → (x || y) ≡ true → is_part b ≡ true
@@ -253,20 +301,20 @@ module _ (start : ℕ) where
   mark_case b false true e f h = part_is b 69 refl f
   mark_case b false false e f h = absurd cc
 
-  exponent_decided : (s : ℕ) → Told (plain (exponent_at start)) s
+  exponent_decided : (s : ℕ) → IsDecidedHere (plain (exponent_at start)) s
   unfolding exponent_at signed
   exponent_decided s =
-      by_first false AreParts (InWord start) (plain (exponent_at start)) s (passes refl tt refl (λ end. refl)) (λ b.
+      by_first false AreParts (InWord start) (plain (exponent_at start)) s (passes refl tt refl (λ end. refl) (λ w c. ap alone (clean_exponent start (s + length w) w c))) (λ b.
       elim (cases_Bool (eqb b 101 || eqb b 69)) [
         | inl e ↦
             goes_on signed (λ bytes. rw e (ap (λ (n : ℕ). signed n bytes) (omega arith))) (behind_part start false b signed s (mark_case b (eqb b 101) (eqb b 69) refl refl e) (signed_decided (suc s)))
-        | inr e ↦ as_it_is b s (plain (exponent_at start)) (λ bytes. rw e refl)
+        | inr e ↦ as_it_is b s (plain (exponent_at start)) (λ bytes. rw e refl) (λ w c. ap alone (clean_exponent start (s + length w) w c))
       ])
 
   tail : Step (Unit {0})
   tail end bytes = alone (fraction_at start end bytes >>= λ fraction. exponent_at start end fraction)
 
-  tail_decided : (s : ℕ) → Told tail s
+  tail_decided : (s : ℕ) → IsDecidedHere tail s
   unfolding tail
   tail_decided s =
       both_decided (plain (fraction_at start)) (plain (exponent_at start)) tail s (λ bytes. alone_both (fraction_at start (s + length bytes) bytes) (λ fraction. exponent_at start (s + length bytes) fraction)) (fraction_decided s) exponent_decided
@@ -274,17 +322,17 @@ module _ (start : ℕ) where
   unsigned : Step (Unit {0})
   unsigned end bytes = alone (whole_at start end bytes >>= λ whole. fraction_at start end whole >>= λ fraction. exponent_at start end fraction)
 
-  unsigned_decided : (s : ℕ) → Told unsigned s
+  unsigned_decided : (s : ℕ) → IsDecidedHere unsigned s
   unfolding unsigned tail
   unsigned_decided s =
       both_decided (plain (whole_at start)) tail unsigned s (λ bytes. alone_both (whole_at start (s + length bytes) bytes) (λ whole. fraction_at start (s + length bytes) whole >>= λ fraction. exponent_at start (s + length bytes) fraction)) (whole_decided s) tail_decided
 
-  past_decided : (s : ℕ) → Told (plain (after_number start)) s
+  past_decided : (s : ℕ) → IsDecidedHere (plain (after_number start)) s
   unfolding after_number unsigned
   past_decided s = both_decided (λ end bytes. Ok (tt, after_minus bytes)) unsigned (plain (after_number start)) s (λ bytes. refl) (minus_decided s) unsigned_decided
 
   -- the text of a number is UTF-8
-  text_utf8 : (t : List ℕ) → IsNumber t → is_utf8 t ≡ true
+  pub text_utf8 : (t : List ℕ) → IsNumber t → is_utf8 t ≡ true
   unfolding number_at
   text_utf8 t k =
       let e = number_read start 0 t [] k tt in
@@ -292,10 +340,13 @@ module _ (start : ℕ) where
       let p = text_found start (take (length (t ++ []) - length one.0) (t ++ [])) one.0 t [] one.2 in
       sym (ap is_utf8 p.0) ∙ p.2
 
-  front_text : (front rest : List ℕ) → is_utf8 front ≡ true → as_text start (take (length (front ++ rest) - length rest) (front ++ rest)) rest ≡ Ok (front, rest)
+  pub front_text : (front rest : List ℕ) → is_utf8 front ≡ true → as_text start (take (length (front ++ rest) - length rest) (front ++ rest)) rest ≡ Ok (front, rest)
   front_text front rest u = rw (taken front rest, u) refl
 
-  pub number_decided : (s : ℕ) → IsDecided false AreParts (InWord start) (number_at start) s
+  some_number : (t : List ℕ) → IsNumber t → 0 < length t
+  some_number t k = let p = number_first t k in omega (arith, ap length p.2)
+
+  pub number_decided : (s : ℕ) → IsDecided false IsNumeral (InWord start) (number_at start) s
   unfolding number_at
   number_decided s = record {
     ok = λ bytes t rest e.
@@ -309,7 +360,7 @@ module _ (start : ℕ) where
         record {
           front = a.front;
           here = a.here ∙ ap (λ (l : List ℕ). a.front ++ l) k.1;
-          kept = a.kept;
+          kept = (a.kept, some_number a.front (subst IsNumber is (number_taken start (s + length bytes) bytes one.0 one.1)));
           always = λ w m.
               let past = alone_ok (after_number start (s + length (a.front ++ w)) (a.front ++ w)) w (a.always w (subst (λ (r : List ℕ). MayFollow false r w) (sym k.1) m)) in
               rw past (front_text a.front w utf8 ∙ ap (λ (l : List ℕ). Ok (l, w)) same);

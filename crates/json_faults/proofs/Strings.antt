@@ -22,7 +22,7 @@ inside_then e m f [] d h k = subst (λ (t : Truth). Inside t d f) (sym h) k
 inside_then true m f (b ∷ c) d h k = inside_then false m f c d h k
 inside_then false m f (b ∷ c) d h k = (h.0, inside_then (eqb b 92) m f c d h.1 k)
 
-abbrev Within : {A : Type 0} → A → List ℕ → Type 0
+abbrev pub Within : {A : Type 0} → A → List ℕ → Type 0
 Within x c = Inside false c false
 
 -- within the string whose quote stands at this place
@@ -30,18 +30,18 @@ abbrev pub InString : ℕ → ℕ → List ℕ → ℕ → ℕ → Type 0
 InString start s u b p = (p ≡ start) × (e : Truth) × Inside false u e
 
 -- the same behind a backslash
-abbrev InEscape : ℕ → ℕ → List ℕ → ℕ → ℕ → Type 0
+abbrev pub InEscape : ℕ → ℕ → List ℕ → ℕ → ℕ → Type 0
 InEscape start s u b p = (p ≡ start) × (e : Truth) × Inside true u e
 
 module _ (start : ℕ) where
-  abbrev Told : {A : Type 0} → Step A → ℕ → Type 0
-  Told f s = IsDecided true Within (InString start) f s
+  abbrev IsDecidedHere : {A : Type 0} → Step A → ℕ → Type 0
+  IsDecidedHere f s = IsDecided true Within (InString start) f s
 
-  both_told : {A B : Type 0} (f : Step A) (g : A → Step B) (h : Step B) (s : ℕ) → ((bytes : List ℕ) → run h s bytes ≡ (run f s bytes >>= λ x. g x.0 (s + length bytes) x.1)) → Told f s → ((x : A) (t : ℕ) → Told (g x) t) → Told h s
+  both_told : {A B : Type 0} (f : Step A) (g : A → Step B) (h : Step B) (s : ℕ) → ((bytes : List ℕ) → run h s bytes ≡ (run f s bytes >>= λ x. g x.0 (s + length bytes) x.1)) → IsDecidedHere f s → ((x : A) (t : ℕ) → IsDecidedHere (g x) t) → IsDecidedHere h s
   both_told f g h s made first second =
       bound true Within Within Within (InString start) f g h s made first (λ x c k. second x (s + length c)) (λ x y c d k l. inside_then false false false c d k l) (λ x c u b p k t. (t.0, t.1, inside_then false false t.1 c u k t.2))
 
-  no_more : {A : Type 0} (y : A) (s : ℕ) → Told (λ end bytes. Ok (y, bytes)) s
+  no_more : {A : Type 0} (y : A) (s : ℕ) → IsDecidedHere (λ end bytes. Ok (y, bytes)) s
   no_more y s = nothing true Within (InString start) y s refl
 
   -- ---- digits
@@ -56,7 +56,7 @@ module _ (start : ℕ) where
       no_back e = absurd cc
 
   module _ (low high : ℕ) where
-    abbrev hex : Step ℕ
+    abbrev pub hex : Step ℕ
     hex end bytes = hex_at start end low high bytes
 
     hex_byte : (s b : ℕ) (o : Option ℕ) → hex_value b ≡ o → AtByte true Within (InString start) hex s b
@@ -69,14 +69,14 @@ module _ (start : ℕ) where
               goes_on (λ end bytes. Ok (v, bytes)) (λ bytes. rw (e, h) refl) (nothing true (λ x c. Within x (b ∷ c)) (λ t u c p. InString start s (b ∷ u) c p) v (suc s) (digit_inside b v e))
         ]
 
-    hex_decided : (s : ℕ) → Told hex s
+    pub hex_decided : (s : ℕ) → IsDecidedHere hex s
     unfolding hex_at
     hex_decided s = by_first true Within (InString start) hex s (ends (λ end. refl)) (λ b. hex_byte s b (hex_value b) refl)
 
-  abbrev last_digit : ℕ → ℕ → Step ℕ
+  abbrev pub last_digit : ℕ → ℕ → Step ℕ
   last_digit high c end bytes = hex_at start end 0 15 bytes >>= λ d. Ok (256 * high + 16 * c + d.0, d.1)
 
-  unit_decided : (high s : ℕ) → Told (λ end bytes. unit_at start end high bytes) s
+  pub unit_decided : (high s : ℕ) → IsDecidedHere (λ end bytes. unit_at start end high bytes) s
   unfolding unit_at
   unit_decided high s =
       both_told (hex 0 15) (last_digit high) (λ end bytes. unit_at start end high bytes) s (λ bytes. refl) (hex_decided 0 15 s) (λ c t.
@@ -84,14 +84,14 @@ module _ (start : ℕ) where
 
   -- ---- the two halves of a character
 
-  slash_u : Step (Unit {0})
+  abbrev pub slash_u : Step (Unit {0})
   slash_u end bytes = alone (word_at (92 ∷ 117 ∷ []) start end bytes)
 
-  only_u : Step (Unit {0})
+  abbrev pub only_u : Step (Unit {0})
   only_u end bytes = alone (word_at (117 ∷ []) start end bytes)
 
   u_decided : (s : ℕ) → IsDecided true (λ x c. Within x (92 ∷ c)) (λ t u c p. InString start s (92 ∷ u) c p) only_u (suc s)
-  unfolding only_u word_at
+  unfolding word_at
   u_decided s =
       by_first true (λ x c. Within x (92 ∷ c)) (λ t u c p. InString start s (92 ∷ u) c p) only_u (suc s) (ends (λ end. refl)) (λ b.
       elim (cases_Bool (eqb b 117)) [
@@ -102,11 +102,11 @@ module _ (start : ℕ) where
       ])
 
   back_byte : (s : ℕ) → AtByte true Within (InString start) slash_u s 92
-  unfolding slash_u only_u word_at
+  unfolding word_at
   back_byte s = goes_on only_u (λ bytes. ap (λ (n : ℕ). only_u n bytes) (omega arith)) (u_decided s)
 
-  slash_decided : (s : ℕ) → Told slash_u s
-  unfolding slash_u word_at
+  pub slash_decided : (s : ℕ) → IsDecidedHere slash_u s
+  unfolding word_at
   slash_decided s =
       by_first true Within (InString start) slash_u s (ends (λ end. refl)) (λ b.
       elim (cases_Bool (eqb b 92)) [
@@ -114,17 +114,17 @@ module _ (start : ℕ) where
         | inr e ↦ refuses start (λ bytes. rw e refl) (refl, false, refl)
       ])
 
-  abbrev low_unit : ℕ → ℕ → Step (List ℕ)
+  abbrev pub low_unit : ℕ → ℕ → Step (List ℕ)
   low_unit unit top end bytes = unit_at start end top bytes >>= λ low. Ok (encode_utf8 (65536 + 1024 * (unit - 55296) + (low.0 - 56320)), low.1)
 
-  abbrev low_second : ℕ → ℕ → Step (List ℕ)
+  abbrev pub low_second : ℕ → ℕ → Step (List ℕ)
   low_second unit a end bytes = hex_at start end 12 15 bytes >>= λ b. low_unit unit (16 * a + b.0) end b.1
 
-  abbrev low_first : ℕ → Step (List ℕ)
+  abbrev pub low_first : ℕ → Step (List ℕ)
   low_first unit end bytes = hex_at start end 13 13 bytes >>= λ a. low_second unit a.0 end a.1
 
-  low_decided : (unit s : ℕ) → Told (λ end bytes. low_at start end unit bytes) s
-  unfolding low_at slash_u
+  pub low_decided : (unit s : ℕ) → IsDecidedHere (λ end bytes. low_at start end unit bytes) s
+  unfolding low_at
   low_decided unit s =
       both_told slash_u (λ x. low_first unit) (λ end bytes. low_at start end unit bytes) s
       (λ bytes. alone_then (word_at (92 ∷ 117 ∷ []) start (s + length bytes) bytes) (λ rest. low_first unit (s + length bytes) rest)) (slash_decided s) (λ x t.
@@ -133,20 +133,20 @@ module _ (start : ℕ) where
       both_told (λ end bytes. unit_at start end (16 * a + b) bytes) (λ low end bytes. Ok (encode_utf8 (65536 + 1024 * (unit - 55296) + (low - 56320)), bytes)) (low_unit unit (16 * a + b)) q (λ bytes. refl) (unit_decided (16 * a + b) q)
       (λ low o. no_more (encode_utf8 (65536 + 1024 * (unit - 55296) + (low - 56320))) o))))
 
-  abbrev character : ℕ → Step (List ℕ)
+  abbrev pub character : ℕ → Step (List ℕ)
   character unit end bytes = cond (ltb unit 55296 || ltb 57343 unit) (Ok (encode_utf8 unit, bytes)) (low_at start end unit bytes)
 
-  either : (unit s : ℕ) (t : Truth) → Told (λ end bytes. cond t (Ok (encode_utf8 unit, bytes)) (low_at start end unit bytes)) s
+  pub either : (unit s : ℕ) (t : Truth) → IsDecidedHere (λ end bytes. cond t (Ok (encode_utf8 unit, bytes)) (low_at start end unit bytes)) s
   either unit s true = no_more (encode_utf8 unit) s
   either unit s false = low_decided unit s
 
-  abbrev third : ℕ → Step (List ℕ)
+  abbrev pub third : ℕ → Step (List ℕ)
   third top end bytes = unit_at start end top bytes >>= λ unit. character unit.0 end unit.1
 
-  abbrev second : ℕ → Step (List ℕ)
+  abbrev pub second : ℕ → Step (List ℕ)
   second a end bytes = hex_at start end 0 (cond (eqb a 13) 11 15) bytes >>= λ b. third (16 * a + b.0) end b.1
 
-  unicode_decided : (s : ℕ) → Told (λ end bytes. unicode_at start end bytes) s
+  pub unicode_decided : (s : ℕ) → IsDecidedHere (λ end bytes. unicode_at start end bytes) s
   unfolding unicode_at
   unicode_decided s =
       both_told (hex 0 15) second (λ end bytes. unicode_at start end bytes) s (λ bytes. refl) (hex_decided 0 15 s) (λ a t.
@@ -155,7 +155,7 @@ module _ (start : ℕ) where
 
   -- ---- escapes and pieces
 
-  abbrev Escaped : {A : Type 0} → A → List ℕ → Type 0
+  abbrev pub Escaped : {A : Type 0} → A → List ℕ → Type 0
   Escaped x c = Inside true c false
 
   letter_byte : (s b : ℕ) (o : Option ℕ) → eqb b 117 ≡ false → meant b ≡ o → AtByte true Escaped (InEscape start) (λ end bytes. escape_at start end bytes) s b
@@ -164,7 +164,7 @@ module _ (start : ℕ) where
   letter_byte s b (Some m) n e =
       goes_on (λ end bytes. Ok (m ∷ [], bytes)) (λ bytes. rw (n, e) refl) (nothing true (λ x c. Escaped x (b ∷ c)) (λ t u c p. InEscape start s (b ∷ u) c p) (m ∷ []) (suc s) refl)
 
-  escape_decided : (s : ℕ) → IsDecided true Escaped (InEscape start) (λ end bytes. escape_at start end bytes) s
+  pub escape_decided : (s : ℕ) → IsDecided true Escaped (InEscape start) (λ end bytes. escape_at start end bytes) s
   unfolding escape_at
   escape_decided s =
       by_first true Escaped (InEscape start) (λ end bytes. escape_at start end bytes) s (ends (λ end. refl)) (λ b.
@@ -174,14 +174,14 @@ module _ (start : ℕ) where
       ])
 
   -- a piece, and whether another follows: the closing quote is the last
-  abbrev IsPiece : Truth → List ℕ → Type 0
+  abbrev pub IsPiece : Truth → List ℕ → Type 0
   IsPiece true c = (0 < length c) × Inside false c false
   IsPiece false c = c ≡ 34 ∷ []
 
-  abbrev Piece : List ℕ × Truth → List ℕ → Type 0
+  abbrev pub Piece : List ℕ × Truth → List ℕ → Type 0
   Piece x c = IsPiece x.1 c
 
-  abbrev escaped : Step (List ℕ × Truth)
+  abbrev pub escaped : Step (List ℕ × Truth)
   escaped end bytes = escape_at start end bytes >>= λ x. Ok ((x.0, true), x.1)
 
   escaped_decided : (s : ℕ) → IsDecided true (λ y c. Piece y (92 ∷ c)) (λ t u c p. InString start s (92 ∷ u) c p) escaped (suc s)
@@ -206,7 +206,7 @@ module _ (start : ℕ) where
             (nothing true (λ x c. Piece x (b ∷ c)) (λ t u c p. InString start s (b ∷ u) c p) (b ∷ [], true) (suc s) (omega arith, (differs b 34 q, n)))
       ]
 
-  piece_decided : (done : List ℕ) (s : ℕ) → IsDecided true Piece (InString start) (λ end bytes. piece_at start end done bytes) s
+  pub piece_decided : (done : List ℕ) (s : ℕ) → IsDecided true Piece (InString start) (λ end bytes. piece_at start end done bytes) s
   unfolding piece_at
   piece_decided done s =
       by_first true Piece (InString start) (λ end bytes. piece_at start end done bytes) s (ends (λ end. refl)) (λ b.
@@ -246,7 +246,7 @@ module _ (start : ℕ) where
   start_is : (bytes : List ℕ) → place (suc start + length bytes) bytes - 1 ≡ start
   start_is bytes = omega arith
 
-  string_is : (bytes : List ℕ) → string_at (suc start + length bytes) bytes ≡ (run (pieces start) (suc start) bytes >>= λ x. as_text start x.0 x.1)
+  pub string_is : (bytes : List ℕ) → string_at (suc start + length bytes) bytes ≡ (run (pieces start) (suc start) bytes >>= λ x. as_text start x.0 x.1)
   unfolding string_at
   string_is bytes = rw (start_is bytes) refl
 

@@ -1,55 +1,60 @@
 -- A text is refused by the token at its place, whatever stands behind it.
-use Rattle.std.proofs.Common.{◌≡◌, ◌⊎◌, ℕ, ◌<◌, ◌≤◌, Bool as Truth, true, false, eqb, List, [], ◌∷◌, ◌++◌, length, take, drop, Result, Ok, Err, refl, sym, ap, ◌∙◌, inl, inr, append_assoc, arith}
+use Rattle.std.proofs.Common.{◌≡◌, ◌⊎◌, ℕ, ◌<◌, ◌≤◌, Bool as Truth, true, false, eqb, List, [], ◌∷◌, ◌++◌, length, take, drop, Err, refl, sym, ap, ◌∙◌, inl, inr, append_assoc, arith}
 use Rattle.std.proofs.lemmas.Bool.{cases_Bool}
-use Rattle.std.proofs.lemmas.List.{length-append, take-append-le, take_all}
+use Rattle.std.proofs.lemmas.List.{length-append}
+use Rattle.std.proofs.Math.Seq.{drop-append_seam}
 use Rattle.json_tree.specs.declared.tree.Tree.{Tree}
-use Rattle.json_text.specs.Reading.{◌>>=◌, after_space, value_at, ended, tree_of_text}
+use Rattle.json_text.specs.Reading.{◌>>=◌, place, after_space, value_at, ended, tree_of_text}
 use Rattle.json_text.proofs.Spelled.{json_read}
 use Rattle.json_faults.specs.Tokens.{is_part, word_from, string_from, token_from, up_to_token}
 use Rattle.json_faults.specs.Faults.{Continues, RefusedAtItsToken, RefusedWithin}
-use Rattle.json_faults.proofs.Decisions.{Step, run, Stops, fault_is_none, value_is_none, bind_err, passes, refuses, by_first}
-use Rattle.json_faults.proofs.Values.{InToken, Free, IsTold, itself, place_is, told_both, spaced, spaced_told, read_told}
+use Rattle.json_faults.proofs.Decisions.{Step, run, Stops, err_is, fault_is_none, value_is_none, bind_err, take-append, ends, refuses, by_first}
+use Rattle.json_faults.proofs.Values.{InToken, Free, IsDecidedAnywhere, itself, place_is, told_both, spaced, spaced_told, read_told}
 
 -- ---- the whole text
 
-abbrev closed : Tree → Step Tree
-closed t end [] = Ok (t, [])
-closed t end (b ∷ bytes) = ended end t (b ∷ bytes) >>= λ u. Ok (u, [])
+-- nothing stands behind the value, or a refusal; the end of the text stands for a refusal too
+abbrev closed : Step (Unit {0})
+closed end [] = Err end
+closed end (b ∷ bytes) = Err (place end (b ∷ bytes))
 
-closed_told : (t : Tree) → IsTold (closed t)
-closed_told t s = by_first false Free InToken (closed t) s (passes refl t tt (λ end. refl)) (λ b. refuses s (λ bytes. ap (λ (n : ℕ). Err n) (place_is s (b ∷ bytes))) (itself s b))
+closed_told : IsDecidedAnywhere closed
+closed_told s = by_first false Free InToken closed s (ends (λ end. refl)) (λ b. refuses s (λ bytes. ap (λ (n : ℕ). Err n) (place_is s (b ∷ bytes))) (itself s b))
 
-whole : Step Tree
-whole end bytes = value_at 256 end (after_space bytes) >>= λ x. closed x.0 end (after_space x.1)
+whole : Step (Unit {0})
+whole end bytes = value_at 256 end (after_space bytes) >>= λ x. closed end (after_space x.1)
 
-whole_told : IsTold whole
+whole_told : IsDecidedAnywhere whole
 unfolding whole
 whole_told s =
-    told_both Free (spaced (value_at 256)) (λ t. spaced (closed t)) whole s (λ bytes. refl) (spaced_told Free (value_at 256) s (read_told 256) (λ y c d k. tt)) (λ t r. spaced_told Free (closed t) r (closed_told t) (λ y c d k. tt)) (λ y c d k. tt)
+    told_both Free (spaced (value_at 256)) (λ t. spaced closed) whole s (λ bytes. refl) (spaced_told Free (value_at 256) s (read_told 256) (λ y c d k. tt)) (λ t r. spaced_told Free closed r closed_told (λ y c d k. tt)) (λ y c d k. tt)
 
-closed_is : (end : ℕ) (t : Tree) (bytes : List ℕ) → ended end t bytes ≡ (closed t end bytes >>= λ x. Ok x.0)
-closed_is end t [] = refl
-closed_is end t (b ∷ bytes) = refl
+closed_err : (end : ℕ) (t : Tree) (bytes : List ℕ) (p : ℕ) → ended end t bytes ≡ Err p → closed end bytes ≡ Err p
+closed_err end t [] p e = absurd (value_is_none t p e)
+closed_err end t (b ∷ bytes) p e = ap (λ (n : ℕ). Err n) (err_is {A = Tree} _ p e)
 
-bind_twice : {A B C : Type 0} (r : Result A ℕ) (f : A → Result B ℕ) (g : A → Result C ℕ) (k : C → Result B ℕ) → ((x : A) → f x ≡ (g x >>= k)) → (r >>= f) ≡ ((r >>= g) >>= k)
-bind_twice (Ok x) f g k h = h x
-bind_twice (Err p) f g k h = refl
-
-text_is : (text : List ℕ) → tree_of_text text ≡ (run whole 0 text >>= λ x. Ok x.0)
+whole_err : (text : List ℕ) (p : ℕ) → tree_of_text text ≡ Err p → whole (length text) text ≡ Err p
 unfolding tree_of_text whole
-text_is text =
-    bind_twice (value_at 256 (length text) (after_space text)) (λ x. ended (length text) x.0 (after_space x.1)) (λ x. closed x.0 (length text) (after_space x.1)) (λ x. Ok x.0) (λ x. closed_is (length text) x.0 (after_space x.1))
-    ∙ ap (λ (n : ℕ). whole n text >>= λ x. Ok x.0) (omega arith)
-
-whole_err : (text : List ℕ) (p : ℕ) → tree_of_text text ≡ Err p → run whole 0 text ≡ Err p
 whole_err text p e =
-    elim (bind_err (run whole 0 text) (λ x. Ok x.0) p (sym (text_is text) ∙ e)) [
-      | inl k ↦ k
-      | inr one ↦ absurd (value_is_none one.0.0 p one.2)
+    elim (bind_err (value_at 256 (length text) (after_space text)) (λ x. ended (length text) x.0 (after_space x.1)) p e) [
+      | inl k ↦ rw k refl
+      | inr one ↦ let k = closed_err (length text) one.0.0 (after_space one.0.1) p one.2 in rw one.1 k
     ]
 
-text_err : (text : List ℕ) (p : ℕ) → run whole 0 text ≡ Err p → tree_of_text text ≡ Err p
-text_err text p e = text_is text ∙ ap (λ (r : Result (Tree × List ℕ) ℕ). r >>= λ x. Ok x.0) e
+ended_err : (end : ℕ) (t : Tree) (bytes : List ℕ) (p : ℕ) → p < end → closed end bytes ≡ Err p → ended end t bytes ≡ Err p
+ended_err end t [] p lt e = let is : end ≡ p = err_is {A = Unit {0} × List ℕ} end p e in absurd (omega (arith, is))
+ended_err end t (b ∷ bytes) p lt e = ap (λ (n : ℕ). Err n) (err_is {A = Unit {0} × List ℕ} _ p e)
+
+text_err : (text : List ℕ) (p : ℕ) → p < length text → whole (length text) text ≡ Err p → tree_of_text text ≡ Err p
+unfolding tree_of_text whole
+text_err text p lt e =
+    elim (bind_err (value_at 256 (length text) (after_space text)) (λ x. closed (length text) (after_space x.1)) p e) [
+      | inl k ↦ rw k refl
+      | inr one ↦ let k = ended_err (length text) one.0.0 (after_space one.0.1) p lt one.2 in rw one.1 k
+    ]
+
+at_zero : (text : List ℕ) → run whole 0 text ≡ whole (length text) text
+at_zero text = ap (λ (n : ℕ). whole n text) (omega arith)
 
 -- ---- a token is a front of what it begins
 
@@ -74,7 +79,7 @@ string_front false (b ∷ bytes) =
       | inr h ↦ rw h (front_more b (string_from (eqb b 92) bytes) bytes (string_front (eqb b 92) bytes))
     ]
 
-token_front : (bytes : List ℕ) → IsFront (token_from bytes) bytes
+pub token_front : (bytes : List ℕ) → IsFront (token_from bytes) bytes
 unfolding token_from
 token_front [] = ([], refl)
 token_front (b ∷ bytes) =
@@ -98,13 +103,6 @@ longer (c ∷ d) (a ∷ k) r z b e lt =
     let v = longer d k r z b rest (omega arith) in
     (v.0, λ i. is i ∷ v.1 i)
 
-drop-append : (c r : List ℕ) → drop (length c) (c ++ r) ≡ r
-drop-append [] r = refl
-drop-append (b ∷ c) r = drop-append c r
-
-take-append : (c r : List ℕ) → take (length c) (c ++ r) ≡ c
-take-append c r = take-append-le (length c) c r (omega arith) ∙ take_all (length c) c (omega arith)
-
 -- ---- the law
 
 module _ (text : List ℕ) (p : ℕ) (a : Stops InToken whole 0 text p) where
@@ -125,7 +123,7 @@ module _ (text : List ℕ) (p : ℕ) (a : Stops InToken whole 0 text p) where
   front_is = ap (λ (n : ℕ). take n text) at ∙ (ap (λ (l : List ℕ). take (length before) l) here ∙ take-append before (own ++ a.byte ∷ a.behind))
 
   rest_is : drop p text ≡ own ++ a.byte ∷ a.behind
-  rest_is = ap (λ (n : ℕ). drop n text) at ∙ (ap (λ (l : List ℕ). drop (length before) l) here ∙ drop-append before (own ++ a.byte ∷ a.behind))
+  rest_is = ap (λ (n : ℕ). drop n text) at ∙ (ap (λ (l : List ℕ). drop (length before) l) here ∙ drop-append_seam before (own ++ a.byte ∷ a.behind))
 
   token_is : (v : List ℕ) × (token_from (drop p text) ≡ own ++ a.byte ∷ v)
   token_is =
@@ -134,12 +132,15 @@ module _ (text : List ℕ) (p : ℕ) (a : Stops InToken whole 0 text p) where
       let v = longer own (token_from (own ++ a.byte ∷ a.behind)) f.0 a.behind a.byte f.1 (t.4 a.behind) in
       (v.0, ap token_from rest_is ∙ v.1)
 
+  early : (w : List ℕ) → p < length (a.front ++ a.byte ∷ w)
+  early w = let t = a.told in omega (arith, at, ap length t.2, length-append before own, length-append a.front (a.byte ∷ w))
+
   refused : (more : List ℕ) → tree_of_text (up_to_token p text ++ more) ≡ Err p
   refused more =
       let t = a.told in
       let v = token_is in
       let front : up_to_token p text ≡ a.front ++ a.byte ∷ v.0 = (λ i. front_is i ++ v.1 i) ∙ (sym (append_assoc before own (a.byte ∷ v.0)) ∙ ap (λ (l : List ℕ). l ++ a.byte ∷ v.0) (sym t.2)) in
-      ap (λ (l : List ℕ). tree_of_text (l ++ more)) front ∙ (ap tree_of_text (append_assoc a.front (a.byte ∷ v.0) more) ∙ text_err (a.front ++ a.byte ∷ (v.0 ++ more)) p (a.always (v.0 ++ more)))
+      ap (λ (l : List ℕ). tree_of_text (l ++ more)) front ∙ (ap tree_of_text (append_assoc a.front (a.byte ∷ v.0) more) ∙ text_err (a.front ++ a.byte ∷ (v.0 ++ more)) p (early (v.0 ++ more)) (sym (at_zero (a.front ++ a.byte ∷ (v.0 ++ more))) ∙ a.always (v.0 ++ more)))
 
   no_json : Continues (up_to_token p text) → ⊥
   no_json c = fault_is_none c.1 p (sym (refused c.0) ∙ json_read (up_to_token p text ++ c.0) c.1 c.2)
@@ -150,7 +151,7 @@ module _ (text : List ℕ) (p : ℕ) (a : Stops InToken whole 0 text p) where
 decided : (text : List ℕ) (p : ℕ) → tree_of_text text ≡ Err p → (p ≡ length text) ⊎ Stops InToken whole 0 text p
 decided text p e =
     let d = whole_told 0 in
-    elim (d.err text p (whole_err text p e)) [ inl q ↦ inl (omega (arith, q)) | inr a ↦ inr a ]
+    elim (d.err text p (at_zero text ∙ whole_err text p e)) [ inl q ↦ inl (omega (arith, q)) | inr a ↦ inr a ]
 
 pub refused_at_token : RefusedAtItsToken
 refused_at_token text p e other c = elim (decided text p e) [ inl q ↦ other q | inr a ↦ no_json text p a c ]

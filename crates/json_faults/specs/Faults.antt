@@ -1,5 +1,6 @@
 -- The law of the place at which a text is refused, in the words of the grammar.
-use Rattle.std.specs.Prelude.{◌≡◌, ◌≢◌, ℕ, ◌≤◌, List, ◌++◌, length, Err}
+use Rattle.std.specs.Prelude.{◌≡◌, ◌≢◌, ◌↔◌, ℕ, ◌≤◌, true, List, ◌++◌, length, take, Err}
+use Rattle.std.specs.Str.{is_utf8}
 use Rattle.json_tree.specs.declared.tree.Tree.{Tree}
 use Rattle.json_text.specs.Grammar.{Json}
 use Rattle.json_text.specs.Reading.{tree_of_text}
@@ -16,3 +17,11 @@ RefusedAtItsToken = (text : List ℕ) (at : ℕ) → tree_of_text text ≡ Err a
 -- the law that the place at which a text is refused is one of its places, or its end
 abbrev pub RefusedWithin : Type 0
 RefusedWithin = (text : List ℕ) (at : ℕ) → tree_of_text text ≡ Err at → at ≤ length text
+
+-- the law that the bytes of a text before the place at which it is refused continue
+abbrev pub ContinuesToItsFault : Type 0
+ContinuesToItsFault = (text : List ℕ) (at : ℕ) → is_utf8 text ≡ true → tree_of_text text ≡ Err at → Continues (take at text)
+
+-- the law that a refused text is refused at its end exactly where it continues
+abbrev pub RefusedAtItsEnd : Type 0
+RefusedAtItsEnd = (text : List ℕ) (at : ℕ) → is_utf8 text ≡ true → tree_of_text text ≡ Err at → Continues text ↔ (at ≡ length text)

@@ -3,4 +3,4 @@
 
 mod laws;
 
-pub use laws::{refused_at_its_token, refused_within};
+pub use laws::{continues_to_its_fault, refused_at_its_end, refused_at_its_token, refused_within};
