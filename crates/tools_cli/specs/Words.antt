@@ -12,10 +12,10 @@ use Rattle.tools_cli.specs.declared.table.Verb.{Verb}
 use Rattle.tools_cli.specs.declared.table.Verb.TheVariants as verbs
 use Rattle.tools_cli.specs.declared.table.OptionName.{OptionName}
 use Rattle.tools_cli.specs.declared.table.OptionName.TheVariants as names
-use Rattle.tools_cli.specs.declared.table.Kind.{Kind}
-use Rattle.tools_cli.specs.declared.table.Kind.TheVariants as kinds
-use Rattle.tools_cli.specs.declared.table.Value.{Value}
-use Rattle.tools_cli.specs.declared.table.Value.TheVariants as values
+use Rattle.tools_cli.specs.declared.value.Kind.{Kind}
+use Rattle.tools_cli.specs.declared.value.Kind.TheVariants as kinds
+use Rattle.tools_cli.specs.declared.value.Value.{Value}
+use Rattle.tools_cli.specs.Values.{row_of, value_of, is_hex}
 use Rattle.tools_cli.specs.declared.table.Times.{Times}
 use Rattle.tools_cli.specs.declared.table.Times.TheVariants as times
 use Rattle.tools_cli.specs.declared.table.OptionRow.{OptionRow}
@@ -55,10 +55,6 @@ rules verbs.Help = []
 rules verbs.Version = []
 
 -- the order of a command with these options: the form of the listing is JSON, where nothing else is said
-abbrev pub is_hex : Value → Bool
-is_hex (values.Form forms.Hex) = true
-is_hex _ = false
-
 abbrev pub form_of : List Given → ListForm
 form_of given = if list_any (λ g. is_hex g.value) given then forms.Hex else forms.Json
 
@@ -69,19 +65,9 @@ order_of verbs.Version given = orders.Version
 
 -- One word.
 
--- what stands in a table beside this word
-abbrev pub row_of : {A : Type 0} → List (List ℕ × A) → List ℕ → Option A
-row_of [] w = None
-row_of (r ∷ rs) w = if bytes_eq w r.0 then Some r.1 else row_of rs w
-
 -- what stands behind a name in a word that begins with it
 abbrev pub behind : List ℕ → List ℕ → Option (List ℕ)
 behind name w = if bytes_eq (take (length name) w) name then Some (drop (length name) w) else None
-
--- the value of this kind that a text is
-abbrev pub value_of : Kind → List ℕ → Option Value
-value_of kinds.Nothing text = row_of (([], values.Nothing) ∷ []) text
-value_of kinds.Form text = row_of ((codes "hex", values.Form forms.Hex) ∷ (codes "json", values.Form forms.Json) ∷ []) text
 
 abbrev pub given : OptionRow → Value → Given
 given r v = record { row = r; value = v }

@@ -8,6 +8,7 @@ mod status;
 mod table;
 mod texts;
 mod top;
+mod value;
 mod words;
 
 pub use order::{Order, RestoreOrder};

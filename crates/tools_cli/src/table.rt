@@ -1,8 +1,9 @@
 //! The commands, their options, and the rules of these.
 ghost use Rattle.std.specs.Prelude.{◌≡◌, bytes_eq};
-ghost use Rattle.tools_cli.specs.Words.{is_hex, name_of, commands, options, rules, same_option, row_of};
+ghost use Rattle.tools_cli.specs.Values.{row_of};
+ghost use Rattle.tools_cli.specs.Words.{name_of, commands, options, rules, same_option};
 
-use document_lines::ListForm;
+use crate::value::Kind;
 
 /// What the first word names.
 #[derive(Clone, Copy, Debug, PartialEq, Eq)]
@@ -17,20 +18,6 @@ pub enum Verb {
 pub enum OptionName {
     Archive,
     Form,
-}
-
-/// The kind of value that stands in an option's word directly behind its name.
-#[derive(Clone, Copy, Debug, PartialEq, Eq)]
-pub enum Kind {
-    Nothing,
-    Form,
-}
-
-/// The value of an option.
-#[derive(Clone, Copy, Debug, PartialEq, Eq)]
-pub enum Value {
-    Nothing,
-    Form(ListForm),
 }
 
 /// How often an option may stand.
@@ -60,15 +47,6 @@ pub enum Rule {
     Excludes(OptionName, OptionName),
     /// They stand equally often.
     Equal(OptionName, OptionName),
-}
-
-impl Value {
-    /// Whether it asks for documents by their bytes.
-    pub fn is_hex(self) -> bool
-        ensures { result ≡ is_hex self }
-    {
-        matches!(self, Value::Form(ListForm::Hex))
-    }
 }
 
 impl OptionName {

@@ -1,15 +1,17 @@
 //! The words of the command line.
-ghost use Rattle.std.specs.Prelude.{◌≡◌, ◌+◌, ◌<◌, ◌^◌, [], length, option_map, Ok, Err};
+ghost use Rattle.std.specs.Prelude.{◌≡◌, ◌+◌, ◌<◌, ◌^◌, [], length, option_map, IfOk, Ok, Err};
 ghost use Rattle.std.specs.List.{list_any, list_all};
-ghost use Rattle.tools_cli.specs.Words.{behind, value_of, given_in, first_row, may_stand, option_at, times_given, holds, hold, is_hex, form_of, order_of, step, meaning_behind, meaning_of, same_option, options, rules, texts_of, Means};
+ghost use Rattle.tools_cli.specs.Values.{is_hex};
+ghost use Rattle.tools_cli.specs.Words.{behind, given_in, first_row, may_stand, option_at, times_given, holds, hold, form_of, order_of, step, meaning_behind, meaning_of, same_option, options, rules, texts_of, Means};
 
 use crate::order::{Order, RestoreOrder};
-use crate::table::{Kind, OptionName, OptionRow, Rule, Times, Value, Verb};
+use crate::table::{OptionName, OptionRow, Rule, Times, Verb};
+use crate::value::{Value, value_of};
 use document_lines::ListForm;
 use std::alloc::{AllocError, AllocFailed, Global};
 
 /// An option that stands, with its value.
-#[derive(Clone, Copy, Debug, PartialEq, Eq)]
+#[derive(Debug, Drop)]
 pub struct Given {
     pub row: OptionRow,
     pub value: Value,
@@ -50,48 +52,31 @@ fn behind<'a>(name: &str, word: &'a str) -> Option<&'a str>
     word.strip_prefix(name)
 }
 
-// The value that a text is.
-fn value_of(kind: Kind, text: &str) -> Option<Value>
-    ensures { result ≡ value_of kind text.now }
-{
-    match kind {
-        Kind::Nothing => match text {
-            "" => Some(Value::Nothing),
-            _ => None,
-        },
-        Kind::Form => match text {
-            "hex" => Some(Value::Form(ListForm::Hex)),
-            "json" => Some(Value::Form(ListForm::Json)),
-            _ => None,
-        },
-    }
-}
-
 // What a word is by this row.
-fn given_in(row: OptionRow, word: &str) -> Option<Given>
-    ensures { result ≡ given_in row word.now }
+fn given_in(alloc: Global, row: OptionRow, word: &str) -> Result<Option<Given>, AllocError>
+    ensures { IfOk result (λ o. o ≡ given_in row word.now) }
 {
     match behind(row.option.name(), word) {
-        Some(text) => match value_of(row.kind, text) {
-            Some(value) => Some(Given { row, value }),
-            None => None,
+        Some(text) => match value_of(alloc, row.kind, text)? {
+            Some(value) => Ok(Some(Given { row, value })),
+            None => Ok(None),
         },
-        None => None,
+        None => Ok(None),
     }
 }
 
 // What a word is by the first row that it fits.
-fn first_row(rows: &[OptionRow], word: &str) -> Option<Given>
-    ensures { result ≡ first_row rows.now word.now }
+fn first_row(alloc: Global, rows: &[OptionRow], word: &str) -> Result<Option<Given>, AllocError>
+    ensures { IfOk result (λ o. o ≡ first_row rows.now word.now) }
 {
     let mut rest = rows;
     'rows: while let Some((row, behind)) = rest.split_first() {
-        if let Some(given) = given_in(*row, word) {
-            return Some(given);
+        if let Some(given) = given_in(alloc, *row, word)? {
+            return Ok(Some(given));
         }
         rest = behind;
     }
-    None
+    Ok(None)
 }
 
 // How often an option stands.
@@ -114,12 +99,17 @@ fn may_stand(next: &Given, given: &[Given]) -> bool
 }
 
 // The option that a word is behind these, if it can stand there.
-fn option_at(verb: Verb, given: &[Given], word: &str) -> Option<Given>
-    ensures { result ≡ option_at verb given.now word.now }
+fn option_at(
+    alloc: Global,
+    verb: Verb,
+    given: &[Given],
+    word: &str,
+) -> Result<Option<Given>, AllocError>
+    ensures { IfOk result (λ o. o ≡ option_at verb given.now word.now) }
 {
-    match first_row(verb.options(), word) {
-        Some(next) if may_stand(&next, given) => Some(next),
-        _ => None,
+    match first_row(alloc, verb.options(), word)? {
+        Some(next) if may_stand(&next, given) => Ok(Some(next)),
+        _ => Ok(None),
     }
 }
 
@@ -180,7 +170,7 @@ fn read_behind(alloc: Global, verb: Verb, words: &[String]) -> Result<Order, Wor
     let mut at = 1;
     let mut rest = words;
     'words: while let Some((word, behind)) = rest.split_first() {
-        match option_at(verb, &given, word.as_str()) {
+        match option_at(alloc, verb, &given, word.as_str())? {
             Some(next) => given.push(next)?,
             None => return Err(WordsFault::Usage { word: at }),
         }

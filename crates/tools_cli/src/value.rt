@@ -1,0 +1,112 @@
+//! The values that stand in options' words directly behind their names.
+ghost use Rattle.std.specs.Prelude.{◌≡◌, IfOk, option_map};
+ghost use Rattle.tools_cli.specs.Values.{number_of, moment_of, form_of, nothing_of, pattern_of, value_of, is_hex};
+
+use bson_value::Ts;
+use document_lines::ListForm;
+use itoa::Buffer;
+use ns_patterns::{Pattern, PatternFault};
+use std::alloc::{AllocError, Global};
+
+/// The kind of an option's value.
+#[derive(Clone, Copy, Debug, PartialEq, Eq)]
+pub enum Kind {
+    Nothing,
+    Number,
+    Moment,
+    Form,
+    Pattern,
+}
+
+/// The value of an option.
+#[derive(Debug, Drop)]
+pub enum Value {
+    Nothing,
+    Number(u32),
+    Moment(Ts),
+    Form(ListForm),
+    Pattern(Pattern),
+}
+
+impl Value {
+    /// Whether it asks for documents by their bytes.
+    pub fn is_hex(&self) -> bool
+        ensures { result ≡ is_hex self.now }
+    {
+        matches!(self, Value::Form(ListForm::Hex))
+    }
+}
+
+fn nothing(text: &str) -> Option<Value>
+    ensures { result ≡ option_map (λ u. Value.Nothing) (nothing_of text.now) }
+{
+    match text {
+        "" => Some(Value::Nothing),
+        _ => None,
+    }
+}
+
+// `parse` takes a sign and leading zeros too, so the digits are compared.
+fn number(text: &str) -> Option<u32>
+    ensures { result ≡ number_of text.now }
+{
+    match text.parse::<u32>() {
+        Err(_) => None,
+        Ok(number) => {
+            let mut digits = Buffer::new();
+            if digits.format(number) == text {
+                Some(number)
+            } else {
+                None
+            }
+        }
+    }
+}
+
+fn moment(text: &str) -> Option<Ts>
+    ensures { result ≡ moment_of text.now }
+{
+    match text.split_once(':') {
+        Some((secs, inc)) => Some(Ts {
+            secs: number(secs)?,
+            inc: number(inc)?,
+        }),
+        None => Some(Ts {
+            secs: number(text)?,
+            inc: 0,
+        }),
+    }
+}
+
+fn form(text: &str) -> Option<ListForm>
+    ensures { result ≡ form_of text.now }
+{
+    match text {
+        "hex" => Some(ListForm::Hex),
+        "json" => Some(ListForm::Json),
+        _ => None,
+    }
+}
+
+fn pattern(alloc: Global, text: &str) -> Result<Option<Pattern>, AllocError>
+    ensures { IfOk result (λ o. o ≡ pattern_of text.now) }
+{
+    match Pattern::read(alloc, text) {
+        Ok(pattern) => Ok(Some(pattern)),
+        Err(PatternFault::LoneEscape) => Ok(None),
+        Err(PatternFault::NoMemory) => Err(AllocError),
+    }
+}
+
+/// The value of this kind that a text is.
+pub fn value_of(alloc: Global, kind: Kind, text: &str) -> Result<Option<Value>, AllocError>
+    ensures { IfOk result (λ o. o ≡ value_of kind text.now) }
+{
+    match kind {
+        Kind::Nothing => Ok(nothing(text)),
+        Kind::Number => Ok(number(text).map(Value::Number)),
+        Kind::Moment => Ok(moment(text).map(Value::Moment)),
+        Kind::Form => Ok(form(text).map(Value::Form)),
+        Kind::Pattern => Ok(pattern(alloc, text)?.map(Value::Pattern)),
+    }
+}
