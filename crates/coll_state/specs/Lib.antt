@@ -7,3 +7,5 @@ pub mod Order
 pub mod Stock
 pub mod Tables
 pub mod Walks
+pub mod ChangeAll
+pub mod Prepared
