@@ -6,3 +6,4 @@ pub mod Parts
 pub mod Named
 pub mod Sound
 pub mod Rooms
+pub mod Links

@@ -9,3 +9,4 @@ pub mod Tables
 pub mod Walks
 pub mod ChangeAll
 pub mod Prepared
+pub mod Laws

@@ -5,6 +5,7 @@
 mod change;
 mod collection;
 mod kept;
+mod laws;
 mod prepared;
 mod sorted;
 mod state;
@@ -13,5 +14,6 @@ mod walks;
 
 pub use change::Change;
 pub use kept::{MAX_KEPT_BYTES, MAX_KEPT_LEVELS};
-pub use state::State;
+pub use laws::changes_are_moves;
+pub use state::{COUNT_LIMIT, State};
 pub use walks::{After, Namespaces};

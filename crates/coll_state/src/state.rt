@@ -23,6 +23,9 @@ use std::alloc::{AllocError, Global};
 use std::collections::BTreeMap;
 use std::marker::Model;
 
+/// The calls that a state counts need a count below this.
+pub const COUNT_LIMIT: u128 = 170141183460469231731687303715884105728;
+
 /// Collections by their names: options, index definitions, and documents in record order.
 #[derive(Drop)]
 pub struct State {
@@ -80,6 +83,14 @@ impl State {
         ensures { AreSound self.now }
     {
         let _ = &self.tables;
+    }
+
+    /// How many calls of `put`, `create` and `rename`, and how many documents put by `change`, there were.
+    /// Below `COUNT_LIMIT` each of them is allowed.
+    pub fn count(&self) -> u128
+        ensures { result ≡ self.now.count }
+    {
+        self.count
     }
 
     /// Whether the collection is there.
