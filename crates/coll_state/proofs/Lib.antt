@@ -5,3 +5,5 @@ pub mod Records
 pub mod Parts
 pub mod Named
 pub mod Sound
+pub mod Rooms
+pub mod Links

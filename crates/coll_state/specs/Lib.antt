@@ -7,3 +7,6 @@ pub mod Order
 pub mod Stock
 pub mod Tables
 pub mod Walks
+pub mod ChangeAll
+pub mod Prepared
+pub mod Laws

@@ -2,13 +2,18 @@
 //! definitions.
 #![tactic(auto)]
 
+mod change;
 mod collection;
 mod kept;
+mod laws;
+mod prepared;
 mod sorted;
 mod state;
 mod tables;
 mod walks;
 
+pub use change::Change;
 pub use kept::{MAX_KEPT_BYTES, MAX_KEPT_LEVELS};
-pub use state::State;
+pub use laws::changes_are_moves;
+pub use state::{COUNT_LIMIT, State};
 pub use walks::{After, Namespaces};

@@ -1,25 +1,30 @@
 //! The collections of a server.
-ghost use Rattle.std.specs.Prelude.{◌≡◌, ◌+◌, ◌<◌, ◌^◌, OnOk, OnErr, IfOk, is_some, option_map, true, false, None, ◌≢◌};
+ghost use Rattle.std.specs.Prelude.{length, ◌≡◌, ◌+◌, ◌<◌, ◌^◌, OnOk, OnErr, IfOk, is_some, option_map, true, false, None, ◌≢◌};
 ghost use Rattle.std.specs.Option.{option_copied};
 ghost use Rattle.std.specs.FinMap as map;
 ghost use Rattle.bson_encode.specs.Key.{key_of};
 ghost use Rattle.coll_state.specs.Rows.{id_of, key_in, AreSound};
 ghost use Rattle.coll_state.specs.Changes.{no_rows, put, remove, create, drop_ns, drop_db, rename, add_index, drop_index, document_at, has_index, rows_after};
 ghost use Rattle.coll_state.specs.Walks.{names_left, looks, looks_left};
+ghost use Rattle.coll_state.specs.ChangeAll.{AreThere, HaveIds, change_all};
 ghost use Rattle.coll_state.specs.Kept.{shown, shown_in};
 
+use crate::change::{self, Change};
 use crate::collection::Collection;
 use crate::kept::Kept;
 use crate::tables::{self, Tables};
 use crate::walks::{After, Namespaces};
 use bson_encode::put_key;
-use bson_value::{Bytes, Doc, NsName, Value};
+use bson_value::{Bytes, Doc, List, NsName, Value};
 use bson_view::Held;
 use containers::List as JList;
 use json_tree::{Fields, Tree};
 use std::alloc::{AllocError, Global};
 use std::collections::BTreeMap;
 use std::marker::Model;
+
+/// The calls that a state counts need a count below this.
+pub const COUNT_LIMIT: u128 = 170141183460469231731687303715884105728;
 
 /// Collections by their names: options, index definitions, and documents in record order.
 #[derive(Drop)]
@@ -54,7 +59,7 @@ fn key_in(alloc: Global, doc: &Doc) -> Result<Bytes, AllocError>
 }
 
 // The key of an `_id`.
-fn key_of(alloc: Global, id: &Value) -> Result<Bytes, AllocError>
+pub(crate) fn key_of(alloc: Global, id: &Value) -> Result<Bytes, AllocError>
     ensures { IfOk result (λ key. key ≡ key_of id.now) }
 {
     let mut key = Vec::new(alloc);
@@ -78,6 +83,14 @@ impl State {
         ensures { AreSound self.now }
     {
         let _ = &self.tables;
+    }
+
+    /// How many calls of `put`, `create` and `rename`, and how many documents put by `change`, there were.
+    /// Below `COUNT_LIMIT` each of them is allowed.
+    pub fn count(&self) -> u128
+        ensures { result ≡ self.now.count }
+    {
+        self.count
     }
 
     /// Whether the collection is there.
@@ -171,6 +184,20 @@ impl State {
         let document = Kept::of(alloc, doc)?;
         tables::put(&mut self.tables, alloc, ns, self.count, key, document)?;
         self.count += 1;
+        Ok(())
+    }
+
+    /// The changes one after the other, all of them or, without memory, none.
+    pub fn change(&mut self, alloc: Global, changes: List<Change>) -> Result<(), AllocError>
+        requires there { AreThere changes self.old.tables }
+        requires ids { HaveIds changes }
+        requires count { self.old.count + length changes < 2 ^ 127 }
+        ensures ok { OnOk result (self.new ≡ change_all changes self.old) }
+        ensures err { OnErr result (self.new ≡ self.old) }
+    {
+        let prepared = change::prepare(alloc, changes)?;
+        change::reserve(&mut self.tables, prepared.as_slice())?;
+        self.count = change::apply(&mut self.tables, self.count, prepared);
         Ok(())
     }
 

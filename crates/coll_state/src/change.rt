@@ -1,0 +1,129 @@
+//! Several changes at once.
+ghost use Rattle.std.specs.Prelude.{◌≡◌, ◌+◌, ◌≤◌, ◌<◌, ◌^◌, OnOk, OnErr, IfOk, length, true};
+ghost use Rattle.std.specs.FinMap as map;
+ghost use Rattle.bson_encode.specs.Key.{key_of};
+ghost use Rattle.coll_state.specs.Rows.{AreSound};
+ghost use Rattle.coll_state.specs.ChangeAll.{change_one, change_all, HasId, HaveIds, AreThere};
+ghost use Rattle.coll_state.specs.Prepared.{change_of, changes_of, HasRoom, RoomFor, AllKeep, AllLoseOne};
+ghost use Rattle.coll_state.specs.Tables.{tables_in, stock_at};
+
+use crate::kept::Kept;
+use crate::prepared::Prepared;
+use crate::state::key_of;
+use crate::tables::Tables;
+use bson_value::{Doc, List, NsName, Value};
+use std::alloc::{AllocError, Global};
+
+/// A document that is put under its `_id`, or taken out where there is none.
+#[derive(Drop)]
+pub struct Change {
+    pub ns: NsName,
+    pub id: Value,
+    pub doc: Option<Doc>,
+}
+
+fn document_of(alloc: Global, doc: Option<Doc>) -> Result<Option<Kept>, AllocError>
+    ensures { IfOk result (λ document. document ≡ doc) }
+{
+    match doc {
+        Some(doc) => Ok(Some(Kept::of(alloc, doc)?)),
+        None => Ok(None),
+    }
+}
+
+fn prepare_one(alloc: Global, change: Change) -> Result<Prepared, AllocError>
+    requires { HasId change.id change.doc }
+    ensures { IfOk result (λ p. change_of p ≡ change) }
+{
+    let Change { ns, id, doc } = change;
+    let key = key_of(alloc, &id)?;
+    let document = document_of(alloc, doc)?;
+    Ok(Prepared {
+        ns,
+        id,
+        key,
+        document,
+    })
+}
+
+/// The changes, made ready.
+pub(crate) fn prepare(alloc: Global, changes: List<Change>) -> Result<Vec<Prepared>, AllocError>
+    requires { HaveIds changes }
+    ensures { IfOk result (λ ps. changes_of ps.items ≡ changes) }
+{
+    let mut prepared = Vec::new(alloc);
+    for change in changes.into_vec() {
+        prepared.push(prepare_one(alloc, change)?)?;
+    }
+    Ok(prepared)
+}
+
+// Room for so many documents more in a collection that is there.
+fn reserve_one(tables: &mut Tables, ns: &NsName, more: usize) -> Result<(), AllocError>
+    requires { map.contains_key (tables_in tables.old) ns.now ≡ true }
+    ensures tables { tables_in tables.new ≡ tables_in tables.old }
+    ensures keeps { AllKeep tables.old tables.new }
+    ensures ok { OnOk result (HasRoom more (stock_at tables.new ns.now)) }
+{
+    match tables.get_mut(ns) {
+        Some(collection) => collection.reserve(more),
+        None => unreachable!(),
+    }
+}
+
+/// Makes a change, where there is room for it, and counts a document that is put.
+fn apply_one(tables: &mut Tables, count: u128, change: Prepared) -> u128
+    requires room { HasRoom 1 (stock_at tables.old change.ns) }
+    requires sound { AreSound (record { tables = tables_in tables.old; count = count }) }
+    requires count { count < 2 ^ 127 }
+    ensures rows { (record { tables = tables_in tables.new; count = result }) ≡ change_one (change_of change) (record { tables = tables_in tables.old; count = count }) }
+    ensures keeps { AllLoseOne tables.old tables.new }
+{
+    let Prepared {
+        ns,
+        id,
+        key,
+        document,
+    } = change;
+    let Some(collection) = tables.get_mut(&ns) else {
+        unreachable!();
+    };
+    match document {
+        Some(document) => {
+            collection.put(key, document);
+            count + 1
+        }
+        None => {
+            let _ = collection.remove(&id);
+            count
+        }
+    }
+}
+
+/// Room in its collection for as many documents as there are changes, for each of them.
+pub(crate) fn reserve(tables: &mut Tables, changes: &[Prepared]) -> Result<(), AllocError>
+    requires { AreThere (changes_of changes.now) (tables_in tables.old) }
+    ensures tables { tables_in tables.new ≡ tables_in tables.old }
+    ensures ok { OnOk result (RoomFor (length changes.now) changes.now tables.new) }
+{
+    let more = changes.len();
+    for change in changes {
+        reserve_one(tables, &change.ns, more)?;
+    }
+    Ok(())
+}
+
+/// Makes the changes, where there is room for them, and counts the documents that are put.
+pub(crate) fn apply(tables: &mut Tables, count: u128, changes: Vec<Prepared>) -> u128
+    requires room { RoomFor (length changes.items) changes.items tables.old }
+    requires sound { AreSound (record { tables = tables_in tables.old; count = count }) }
+    requires count { count + length changes.items < 2 ^ 127 }
+    ensures rows { (record { tables = tables_in tables.new; count = result }) ≡ change_all (changes_of changes.items) (record { tables = tables_in tables.old; count = count }) }
+    ensures sound { AreSound (record { tables = tables_in tables.new; count = result }) }
+{
+    let mut count = count;
+    for change in changes {
+        count = apply_one(tables, count, change);
+    }
+    count
+}

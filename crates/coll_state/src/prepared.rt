@@ -1,0 +1,18 @@
+//! A change that was made ready.
+ghost use Rattle.std.specs.Prelude.{◌≡◌};
+ghost use Rattle.bson_encode.specs.Key.{key_of};
+ghost use Rattle.coll_state.specs.ChangeAll.{HasKey};
+
+use crate::kept::Kept;
+use bson_value::{Bytes, NsName, Value};
+
+/// A change that needs no more memory but room in its collection.
+#[derive(Drop)]
+pub(crate) struct Prepared {
+    pub(crate) ns: NsName,
+    pub(crate) id: Value,
+    pub(crate) key: Bytes,
+    pub(crate) document: Option<Kept>,
+    ghost keyed: { key ≡ key_of id },
+    ghost own: { HasKey key document },
+}

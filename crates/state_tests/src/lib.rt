@@ -1,0 +1,5 @@
+//! Worked states: collections in record order, and what each call makes of them.
+#![tactic(auto)]
+
+#[cfg(test)]
+mod collections;
