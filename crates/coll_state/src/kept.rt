@@ -1,12 +1,15 @@
 //! Documents as they are kept.
-ghost use Rattle.std.specs.Prelude.{◌≡◌, IfOk};
-ghost use Rattle.bson_view.specs.Kept.{kept_document};
+ghost use Rattle.std.specs.Prelude.{◌≡◌, IfOk, IsTrue};
+ghost use Rattle.bson_value.specs.declared.value.Value.{out-Value};
+ghost use Rattle.bson_view.specs.HeldWalk.{fields_in};
+ghost use Rattle.bson_value.specs.Spelling.{document_text, spelled};
+ghost use Rattle.bson_view.specs.Kept.{kept_bytes, kept_document};
 ghost use Rattle.coll_state.specs.Kept.{shown, shown_in, is_short};
 
 use bson_check::{DecodeFault, MAX_DOCUMENT_BYTES, MAX_LEVELS, faultless_if_spelled, spelled_once};
 use bson_core::decode;
-use bson_encode::encode;
-use bson_value::Doc;
+use bson_encode::{cmp_key, encode};
+use bson_value::{Doc, Value, type_byte};
 use bson_view::{DocumentBytes, Held, one_document};
 use std::alloc::{AllocError, Global};
 use std::marker::Model;
@@ -97,8 +100,59 @@ impl Kept {
     }
 }
 
-// The document that the bytes spell.
-fn decoded(alloc: Global, bytes: &DocumentBytes) -> Result<Doc, AllocError>
+// Whether the bytes are the spelling of a document, without memory.
+fn is_spelling(value: &Value, bytes: &DocumentBytes) -> bool
+    ensures { IsTrue result → spelled value.now ≡ kept_bytes bytes.now }
+{
+    cmp_key(value, type_byte::DOCUMENT, bytes.as_slice()).is_eq()
+}
+
+// The document that a value is.
+fn document_in(value: Value) -> Option<Doc>
+    ensures { result ≡ fields_in (out-Value value) }
+{
+    match value {
+        Value::Object(doc) => Some(doc),
+        _ => None,
+    }
+}
+
+// The document, and whether the bytes are its spelling.
+fn compared(doc: Doc, bytes: &DocumentBytes) -> (Doc, bool)
+    ensures document { result.0 ≡ doc }
+    ensures spelling { IsTrue result.1 → document_text doc ≡ kept_bytes bytes.now }
+{
+    let value = Value::Object(doc);
+    let same = is_spelling(&value, bytes);
+    match document_in(value) {
+        Some(doc) => (doc, same),
+        None => unreachable!(),
+    }
+}
+
+impl Kept {
+    /// The document, which these bytes spell. They are kept as they lie where they are its spelling.
+    pub(crate) fn of_bytes(
+        alloc: Global,
+        doc: Doc,
+        bytes: DocumentBytes,
+    ) -> Result<Kept, AllocError>
+        requires { kept_document bytes ≡ doc }
+        ensures { IfOk result (λ k. k ≡ doc) }
+    {
+        let short = is_short(&doc);
+        let (doc, same) = compared(doc, &bytes);
+        if short && same {
+            return Ok(Kept {
+                form: Form::Spelled(bytes),
+            });
+        }
+        Kept::of(alloc, doc)
+    }
+}
+
+/// The document that the bytes spell.
+pub(crate) fn decoded(alloc: Global, bytes: &DocumentBytes) -> Result<Doc, AllocError>
     ensures { IfOk result (λ doc. doc ≡ kept_document bytes.now) }
 {
     spelled_once();

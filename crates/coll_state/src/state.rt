@@ -6,17 +6,18 @@ ghost use Rattle.bson_encode.specs.Key.{key_of};
 ghost use Rattle.coll_state.specs.Rows.{id_of, key_in, AreSound};
 ghost use Rattle.coll_state.specs.Changes.{no_rows, put, remove, create, drop_ns, drop_db, rename, add_index, drop_index, document_at, has_index, rows_after};
 ghost use Rattle.coll_state.specs.Walks.{names_left, looks, looks_left};
+ghost use Rattle.bson_view.specs.Kept.{kept_document};
 ghost use Rattle.coll_state.specs.ChangeAll.{AreThere, HaveIds, change_all};
 ghost use Rattle.coll_state.specs.Kept.{shown, shown_in};
 
 use crate::change::{self, Change};
 use crate::collection::Collection;
-use crate::kept::Kept;
+use crate::kept::{Kept, decoded};
 use crate::tables::{self, Tables};
 use crate::walks::{After, Namespaces};
 use bson_encode::put_key;
 use bson_value::{Bytes, Doc, List, NsName, Value};
-use bson_view::Held;
+use bson_view::{DocumentBytes, Held};
 use containers::List as JList;
 use json_tree::{Fields, Tree};
 use std::alloc::{AllocError, Global};
@@ -172,6 +173,23 @@ impl State {
         }
     }
 
+    fn put_kept(
+        &mut self,
+        alloc: Global,
+        ns: &NsName,
+        key: Bytes,
+        document: Kept,
+    ) -> Result<(), AllocError>
+        requires key { key ≡ key_in (id_of document) }
+        requires count { self.old.count < 2 ^ 127 }
+        ensures ok { OnOk result (self.new ≡ put ns.now document self.old) }
+        ensures err { OnErr result (self.new ≡ self.old) }
+    {
+        tables::put(&mut self.tables, alloc, ns, self.count, key, document)?;
+        self.count += 1;
+        Ok(())
+    }
+
     /// The document, in the place of the one of its `_id`, whose number it keeps, or behind all others.
     /// A missing collection is made, without options.
     pub fn put(&mut self, alloc: Global, ns: &NsName, doc: Doc) -> Result<(), AllocError>
@@ -182,9 +200,26 @@ impl State {
     {
         let key = key_in(alloc, &doc)?;
         let document = Kept::of(alloc, doc)?;
-        tables::put(&mut self.tables, alloc, ns, self.count, key, document)?;
-        self.count += 1;
-        Ok(())
+        self.put_kept(alloc, ns, key, document)
+    }
+
+    /// The same of the document that these bytes spell, which are kept as they lie where they are its
+    /// spelling. It is decoded for that.
+    pub fn put_bytes(
+        &mut self,
+        alloc: Global,
+        ns: &NsName,
+        bytes: DocumentBytes,
+    ) -> Result<(), AllocError>
+        requires id { is_some (id_of (kept_document bytes)) ≡ true }
+        requires count { self.old.count < 2 ^ 127 }
+        ensures ok { OnOk result (self.new ≡ put ns.now (kept_document bytes) self.old) }
+        ensures err { OnErr result (self.new ≡ self.old) }
+    {
+        let doc = decoded(alloc, &bytes)?;
+        let key = key_in(alloc, &doc)?;
+        let document = Kept::of_bytes(alloc, doc, bytes)?;
+        self.put_kept(alloc, ns, key, document)
     }
 
     /// The changes one after the other, all of them or, without memory, none.

@@ -1,7 +1,10 @@
 //! Worked collections.
-use bson_value::{CText, Doc, NsName, Text, Value};
+ghost use Rattle.std.specs.Prelude.{IsTrue};
+ghost use Rattle.coll_state.specs.ChangeAll.{HasId};
+
+use bson_value::{CText, Doc, List, NsName, Text, Value};
 use bson_view::Held;
-use coll_state::{COUNT_LIMIT, State};
+use coll_state::{COUNT_LIMIT, Change, State};
 use containers::Text as JText;
 use json_tree::{Fields, Tree};
 use std::alloc::Global;
@@ -35,7 +38,10 @@ fn item(alloc: Global, id: i32, x: i32) -> Result<Doc, Fail> {
 // An index definition of this name, with a mark to tell it from another one.
 fn definition(alloc: Global, name: &str, mark: bool) -> Result<Tree, Fail> {
     let mut fields = Fields::new(alloc);
-    fields.set(JText::of(alloc, "name")?, Tree::Str(JText::of(alloc, name)?))?;
+    fields.set(
+        JText::of(alloc, "name")?,
+        Tree::Str(JText::of(alloc, name)?),
+    )?;
     fields.set(JText::of(alloc, "unique")?, Tree::Bool(mark))?;
     Ok(Tree::Object(fields))
 }
@@ -84,21 +90,28 @@ fn after(
 }
 
 #[test]
-fn a_present_id_keeps_its_number_and_a_removed_one_does_not(
-    rt: HostRuntime,
-) -> Result<(), Fail> {
+fn a_present_id_keeps_its_number_and_a_removed_one_does_not(rt: HostRuntime) -> Result<(), Fail> {
     let alloc = rt.alloc();
     let ns = namespace(alloc, "db", "items")?;
     let mut state = State::new(alloc);
     for (id, x) in [(1, 10), (2, 20), (3, 30), (2, 21)] {
         put(&mut state, alloc, &ns, item(alloc, id, x)?)?;
     }
-    assert_eq!(rt; after(&state, alloc, &ns, 0, 10)?.as_slice(), [(1, 10), (2, 21), (3, 30)].as_slice());
+    assert_eq!(rt;
+        after(&state, alloc, &ns, 0, 10)?.as_slice(),
+        [(1, 10), (2, 21), (3, 30)].as_slice()
+    );
     assert!(rt; state.remove(&ns, &Value::Int(1)));
     assert!(rt; !state.remove(&ns, &Value::Int(1)));
     put(&mut state, alloc, &ns, item(alloc, 1, 11)?)?;
-    assert_eq!(rt; after(&state, alloc, &ns, 0, 10)?.as_slice(), [(2, 21), (3, 30), (4, 11)].as_slice());
-    assert_eq!(rt; after(&state, alloc, &ns, 2, 1)?.as_slice(), [(3, 30)].as_slice());
+    assert_eq!(rt;
+        after(&state, alloc, &ns, 0, 10)?.as_slice(),
+        [(2, 21), (3, 30), (4, 11)].as_slice()
+    );
+    assert_eq!(rt;
+        after(&state, alloc, &ns, 2, 1)?.as_slice(),
+        [(3, 30)].as_slice()
+    );
     assert_eq!(rt; after(&state, alloc, &ns, 4, 1)?.as_slice(), [].as_slice());
     Ok(())
 }
@@ -135,7 +148,10 @@ fn a_remade_collection_begins_anew(rt: HostRuntime) -> Result<(), Fail> {
     assert!(rt; state.has(&ns));
     assert!(rt; state.incarnation(&ns) != first);
     put(&mut state, alloc, &ns, item(alloc, 8, 80)?)?;
-    assert_eq!(rt; after(&state, alloc, &ns, 0, 10)?.as_slice(), [(1, 80)].as_slice());
+    assert_eq!(rt;
+        after(&state, alloc, &ns, 0, 10)?.as_slice(),
+        [(1, 80)].as_slice()
+    );
     let second = state.incarnation(&ns);
     create(&mut state, alloc, &ns)?;
     assert!(rt; state.incarnation(&ns) != second);
@@ -160,7 +176,10 @@ fn a_renamed_collection_keeps_its_numbers(rt: HostRuntime) -> Result<(), Fail> {
     assert!(rt; !state.has(&from));
     assert!(rt; state.incarnation(&to) != before);
     put(&mut state, alloc, &to, item(alloc, 3, 30)?)?;
-    assert_eq!(rt; after(&state, alloc, &to, 0, 10)?.as_slice(), [(2, 20), (3, 30)].as_slice());
+    assert_eq!(rt;
+        after(&state, alloc, &to, 0, 10)?.as_slice(),
+        [(2, 20), (3, 30)].as_slice()
+    );
     Ok(())
 }
 
@@ -199,7 +218,10 @@ fn definitions_stand_by_name(rt: HostRuntime) -> Result<(), Fail> {
     for (name, mark) in [("b", false), ("a", false), ("b", true)] {
         state.add_index(&ns, definition(alloc, name, mark)?)?;
     }
-    let wanted = [definition(alloc, "a", false)?, definition(alloc, "b", true)?];
+    let wanted = [
+        definition(alloc, "a", false)?,
+        definition(alloc, "b", true)?,
+    ];
     match state.indexes(&ns) {
         Some(defs) => {
             assert_eq!(rt; defs.len(), 2);
@@ -233,5 +255,57 @@ fn a_document_of_many_levels_is_built(rt: HostRuntime) -> Result<(), Fail> {
     }
     assert!(rt; matches!(state.get(&ns, &Value::Int(1)), Some(Held::Spelled(_))));
     assert!(rt; matches!(state.get(&ns, &Value::Int(2)), Some(Held::Built(_))));
+    Ok(())
+}
+
+// Whether a document has the `_id` that is named.
+fn is_own(change: &Change) -> bool
+    ensures { IsTrue result → HasId change.now.id change.now.doc }
+{
+    match &change.doc {
+        Some(doc) => match doc.get("_id") {
+            Some(id) => id.same(&change.id),
+            None => false,
+        },
+        None => true,
+    }
+}
+
+// Makes two changes at once, and says whether they are allowed.
+fn change(state: &mut State, alloc: Global, first: Change, second: Change) -> Result<bool, Fail> {
+    if !is_own(&first) || !is_own(&second) || !state.has(&first.ns) || !state.has(&second.ns) {
+        return Ok(false);
+    }
+    if state.count() >= COUNT_LIMIT - 2 {
+        return Ok(false);
+    }
+    let mut changes = List::new(alloc);
+    changes.push(first)?;
+    changes.push(second)?;
+    state.change(alloc, changes)?;
+    Ok(true)
+}
+
+#[test]
+fn several_changes_are_made_in_order(rt: HostRuntime) -> Result<(), Fail> {
+    let alloc = rt.alloc();
+    let ns = namespace(alloc, "db", "items")?;
+    let mut state = State::new(alloc);
+    put(&mut state, alloc, &ns, item(alloc, 1, 10)?)?;
+    let first = Change {
+        ns: ns.copy(alloc)?,
+        id: Value::Int(1),
+        doc: None,
+    };
+    let second = Change {
+        ns: ns.copy(alloc)?,
+        id: Value::Int(1),
+        doc: Some(item(alloc, 1, 11)?),
+    };
+    assert!(rt; change(&mut state, alloc, first, second)?);
+    assert_eq!(rt;
+        after(&state, alloc, &ns, 0, 10)?.as_slice(),
+        [(2, 11)].as_slice()
+    );
     Ok(())
 }
