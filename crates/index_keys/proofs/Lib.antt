@@ -1,0 +1,5 @@
+pub mod AlikeKeys
+pub mod FormedKeys
+pub mod OneText
+pub mod EachOnce
+pub mod Normal
