@@ -19,7 +19,8 @@ use Rattle.bson_value.specs.WellFormed.{IsName}
 use Rattle.bson_value.specs.WellFormed.{IsWellFormedLevel, IsWellFormed, AreWellFormedItems, AreWellFormedFields, IsWellFormedDocument}
 use Rattle.bson_value.proofs.WellFormed.{IsHeldWellFormed, held_formed, here_formed, formed_object, formed_scoped, formed_array, formed_null}
 use Rattle.index_keys.specs.Branches.{Path, Branch, Missing, Empty, Given, end_in, from_field, from_one, on_way, branches}
-use Rattle.index_keys.specs.Keys.{Plan, Fields, Cell, Of, EmptyArray, Key, cell, cells, tuples, has_none, keys}
+use Rattle.index_keys.specs.declared.plan.Plan.{Plan}
+use Rattle.index_keys.specs.Keys.{Fields, Cell, Of, EmptyArray, Key, cell, cells, tuples, has_none, keys}
 
 abbrev R : List ℕ → List ℕ → Ordering
 R = slice_cmp nat_cmp

@@ -1,7 +1,8 @@
 -- Index definitions: the normal form, and whether an index is built.
 use Rattle.std.specs.Prelude.{◌≡◌, ℕ, Bool, true, false, not, ◌&&◌, ◌||◌, List, [], ◌∷◌, map, Option, Some, None, codes, if◌then◌else◌}
 use Rattle.std.specs.List.{list_any, list_all}
-use Rattle.std.specs.Str.{bytes_eq, all_ascii_digits}
+use Rattle.std.specs.Str.{bytes_eq}
+use Rattle.std.specs.Char.{is_ascii_digit}
 use Rattle.containers.specs.Entries.{lookup}
 use Rattle.json_tree.specs.declared.tree.Tree.{Tree, Tree-F, out-Tree}
 use Rattle.json_tree.specs.declared.tree.Tree.TheVariants as trees
@@ -10,7 +11,9 @@ use Rattle.extjson.specs.Plain.{wrapped_fields}
 use Rattle.doc_path.specs.Paths.{parts_of, path_fault}
 use Rattle.doc_path.specs.declared.path.PathFault.{PathFault}
 use Rattle.index_keys.specs.Branches.{Path}
-use Rattle.index_keys.specs.Keys.{Plan}
+use Rattle.index_keys.specs.declared.plan.Plan.{Plan}
+use Rattle.index_keys.specs.declared.plan.Planned.{Planned}
+use Rattle.index_keys.specs.declared.plan.Planned.TheVariants as planned
 
 abbrev pub Members : Type 0
 Members = List (List ℕ × Tree)
@@ -95,7 +98,7 @@ is_faultless (Some f) = false
 
 -- a path that can be read, without a part of digits alone
 abbrev pub is_plain_path : List ℕ → Bool
-is_plain_path t = is_faultless (path_fault t) && not (list_any all_ascii_digits (parts_of t))
+is_plain_path t = is_faultless (path_fault t) && not (list_any (list_all is_ascii_digit) (parts_of t))
 
 abbrev pub starts_with : List ℕ → Path → Bool
 starts_with k [] = false
@@ -125,19 +128,42 @@ known = codes "v" ∷ codes "key" ∷ codes "name" ∷ codes "unique" ∷ codes 
 abbrev pub paths_of : Members → List Path
 paths_of key = map (λ e. parts_of e.0) key
 
-abbrev pub plan_by : Option Members → Option Bool → Option Bool → Option Plan
-plan_by (Some (e ∷ es)) (Some sparse) (Some unique) =
-    if list_all (λ f. is_direction f.1 && is_plain_path f.0) (e ∷ es) && all_apart (paths_of (e ∷ es))
-    then Some (record { paths = paths_of (e ∷ es); sparse = sparse; unique = unique }) else None
+-- a direction at a plain path
+abbrev pub is_plain_field : List ℕ × Tree → Bool
+is_plain_field f = is_direction f.1 && is_plain_path f.0
+
+-- the path of a field
+abbrev pub built_path : List ℕ × Tree → Option Path
+built_path f = if is_plain_field f then Some (parts_of f.0) else None
+
+-- the paths of one field or more, all of them plain and apart
+unfoldable pub built_paths : Members → Option (List Path)
+built_paths [] = None
+built_paths (e ∷ es) = if list_all is_plain_field (e ∷ es) && all_apart (paths_of (e ∷ es)) then Some (paths_of (e ∷ es)) else None
+
+abbrev pub plan_by : Option (List Path) → Option Bool → Option Bool → Option Plan
+plan_by (Some paths) (Some sparse) (Some unique) = Some (record { paths = paths; sparse = sparse; unique = unique })
 plan_by _ _ _ = None
+
+abbrev pub paths_in : Option Members → Option (List Path)
+paths_in None = None
+paths_in (Some key) = built_paths key
+
+abbrev pub all_known : Members → Bool
+all_known es = list_all (λ e. is_one_of known e.0) es
 
 abbrev pub plan_in : Option Members → Option Plan
 plan_in None = None
-plan_in (Some es) = if list_all (λ e. is_one_of known e.0) es then plan_by (members_in (lookup (codes "key") es)) (flag (lookup (codes "sparse") es)) (flag (lookup (codes "unique") es)) else None
+plan_in (Some es) = if all_known es then plan_by (paths_in (members_in (lookup (codes "key") es))) (flag (lookup (codes "sparse") es)) (flag (lookup (codes "unique") es)) else None
 
 -- the plan of a definition in normal form, or none where it isn't built
 unfoldable pub plan_of : Tree → Option Plan
 plan_of t = plan_in (members t)
+
+-- the plan that was answered, or none for Unbuilt
+abbrev pub plan_told : Planned → Option Plan
+plan_told (planned.Plain plan) = Some plan
+plan_told planned.Unbuilt = None
 
 -- ---- the law
 

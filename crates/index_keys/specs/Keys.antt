@@ -3,13 +3,8 @@ use Rattle.std.specs.Prelude.{ℕ, ◌≡◌, Bool, true, false, ◌&&◌, List,
 use Rattle.std.specs.List.{flat_map, list_all}
 use Rattle.bson_value.specs.declared.value.Value.{Value, Null, Object}
 use Rattle.bson_value.specs.Alike.{ordered}
+use Rattle.index_keys.specs.declared.plan.Plan.{Plan}
 use Rattle.index_keys.specs.Branches.{Path, Branch, Missing, Empty, Given, branches, meets_array}
-
--- an index that is built: its fields, whether it leaves out documents without them, and whether a key is of one document
-pub record Plan : Type 0 where
-  pub paths : List Path
-  pub sparse : Bool
-  pub unique : Bool
 
 -- a document: names and values
 abbrev pub Fields : Type 0

@@ -1,7 +1,8 @@
 -- The laws of keys.
 use Rattle.std.specs.Prelude.{◌≡◌}
 use Rattle.bson_value.specs.Alike.{AreAlike}
-use Rattle.index_keys.specs.Keys.{Plan, Fields, keys, parallel}
+use Rattle.index_keys.specs.declared.plan.Plan.{Plan}
+use Rattle.index_keys.specs.Keys.{Fields, keys, parallel}
 
 -- documents that are equal up to the order of fields have the same keys, as many of each
 abbrev pub AlikeKeys : Type 0

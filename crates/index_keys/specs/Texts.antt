@@ -10,7 +10,8 @@ use Rattle.bson_value.specs.Spelling.{document_text}
 use Rattle.containers.specs.Entries.{AreDistinct}
 use Rattle.bson_value.specs.WellFormed.{IsWellFormedDocument}
 use Rattle.index_keys.specs.Branches.{Path}
-use Rattle.index_keys.specs.Keys.{Plan, Fields, Cell, EmptyArray, Of, Key, keys, IsKey}
+use Rattle.index_keys.specs.declared.plan.Plan.{Plan}
+use Rattle.index_keys.specs.Keys.{Fields, Cell, EmptyArray, Of, Key, keys, IsKey}
 
 -- a cell as a value: an array without elements, or of the one value
 abbrev pub cell_value : Cell → Value

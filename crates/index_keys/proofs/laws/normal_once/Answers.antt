@@ -1,4 +1,4 @@
-use Rattle.index_keys.proofs.Normal.{normal_once}
+use Rattle.index_keys.proofs.NormalForms.{normal_once}
 use Rattle.index_keys.proofs.laws.normal_once.Goals as goal
 
 pub returns : goal.returns
