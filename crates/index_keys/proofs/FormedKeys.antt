@@ -22,7 +22,7 @@ use Rattle.index_keys.specs.Branches.{Path, Branch, Missing, Empty, Given, end_i
 use Rattle.index_keys.specs.declared.plan.Plan.{Plan}
 use Rattle.index_keys.specs.Keys.{Fields, Cell, Of, EmptyArray, Key, cell, cells, tuples, has_none, keys}
 
-abbrev R : List ℕ → List ℕ → Ordering
+abbrev pub R : List ℕ → List ℕ → Ordering
 R = slice_cmp nat_cmp
 
 abbrev Entry : Type 0
@@ -47,7 +47,7 @@ empty_list : (es : List Entry) → length es ≡ 0 → es ≡ []
 empty_list [] e = refl
 empty_list (x ∷ es) e = absurd (omega arith)
 
-no_entries : entries (map_of.empty {X = Value} {R = R}) ≡ []
+pub no_entries : entries (map_of.empty {X = Value} {R = R}) ≡ []
 no_entries = empty_list _ (sym (map_of.len-entries (map_of.empty {X = Value} {R = R})) ∙ map_of.len-empty R Value)
 
 formed_entries : (es : List Entry) → AreFormed es → AreFormed (entries (from_entries {R = R} es))

@@ -6,3 +6,9 @@ pub mod NormalForms
 pub mod Loops
 pub mod Others
 pub mod Built
+pub mod Ways
+pub mod Tuples
+pub mod Nulls
+pub mod CellValues
+pub mod Meeting
+pub mod Dots

@@ -34,17 +34,6 @@ each_once texts = fold put_text [] texts
 abbrev pub key_texts : Plan → Fields → List (List ℕ)
 key_texts plan doc = each_once (map key_text (keys plan doc))
 
--- a plan of one path
-abbrev pub of_path : Path → Bool → Plan
-of_path path sparse = record { paths = path ∷ []; sparse = sparse; unique = false }
-
-abbrev pub of_paths : List Path → Bool → Plan
-of_paths paths sparse = record { paths = paths; sparse = sparse; unique = false }
-
--- each path has a part
-abbrev pub HaveParts : List Path → Type 0
-HaveParts paths = (i : ℕ) → i < length paths → 1 ≤ length (get_or paths i [])
-
 -- keys of documents with one text are one key, where a length can hold how long it is
 abbrev pub OneText : Type 0
 OneText = (plan : Plan) (a b : Fields) (k l : Key) → IsWellFormedDocument a → IsWellFormedDocument b → IsKey plan a k → IsKey plan b l →
