@@ -1,11 +1,10 @@
 -- A branch as a value, whose fields then come into the order of their names, is its cell.
-use Rattle.std.proofs.Common.{◌≡◌, ℕ, List, [], ◌∷◌, map, refl, sym, ap, ◌∙◌}
-use Rattle.std.specs.Ordering.{nat_cmp}
-use Rattle.std.specs.Cmp.Lexicographic.{slice_cmp, nat_list_cmp_total}
-use Rattle.std.specs.FinMap.{entries, from_entries, entries-insert}
+use Rattle.std.proofs.Common.{◌≡◌, ℕ, List, [], ◌∷◌, map, refl, ap, ◌∙◌}
+use Rattle.std.specs.Cmp.Lexicographic.{nat_list_cmp_total}
+use Rattle.std.specs.FinMap.{from_entries, entries-insert}
 use Rattle.std.specs.FinMap as map_of
 use Rattle.bson_value.specs.declared.value.Value.{Value, Array, Null}
-use Rattle.bson_value.specs.Alike.{by_name, ordered, ordered_fields}
+use Rattle.bson_value.specs.Alike.{by_name, ordered}
 use Rattle.bson_value.proofs.Ordered.{ordered-Array}
 use Rattle.index_keys.specs.Branches.{Branch, Missing, Empty, Given}
 use Rattle.index_keys.specs.Keys.{cell}

@@ -12,3 +12,4 @@ pub mod Nulls
 pub mod CellValues
 pub mod Meeting
 pub mod Dots
+pub mod Spelled

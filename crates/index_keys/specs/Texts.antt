@@ -1,5 +1,5 @@
 -- A key as bytes.
-use Rattle.std.specs.Prelude.{ℕ, ◌≡◌, ◌<◌, ◌^◌, ◌≤◌, get_or, Bool, false, List, [], ◌∷◌, length, map, fold}
+use Rattle.std.specs.Prelude.{ℕ, ◌≡◌, ◌<◌, ◌^◌, List, [], ◌∷◌, length, map, fold}
 use Rattle.std.specs.List.{list_any}
 use Rattle.std.specs.Str.{bytes_eq}
 use Rattle.std.specs.Ordering.{nat_cmp}
@@ -9,7 +9,6 @@ use Rattle.bson_value.specs.declared.value.Value.{Value, Array}
 use Rattle.bson_value.specs.Spelling.{document_text}
 use Rattle.containers.specs.Entries.{AreDistinct}
 use Rattle.bson_value.specs.WellFormed.{IsWellFormedDocument}
-use Rattle.index_keys.specs.Branches.{Path}
 use Rattle.index_keys.specs.declared.plan.Plan.{Plan}
 use Rattle.index_keys.specs.Keys.{Fields, Cell, EmptyArray, Of, Key, keys, IsKey}
 

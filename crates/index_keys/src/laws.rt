@@ -10,8 +10,8 @@ pub fn alike_documents()
     ensures parallel { AlikeParallel }
 {}
 
-/// Keys of one text are one key, where a length can hold how long it is. `Fields::is_well_formed` tells
-/// of each document what the law asks of it.
+/// Keys of one text are one key, where a length can hold how long it is. `held_is_well_formed`
+/// tells of each document what the law asks of it.
 pub fn one_text()
     ensures { OneText }
 {}

@@ -12,6 +12,7 @@ mod parts;
 mod plan;
 mod products;
 mod reading;
+mod well_formed;
 
 pub use fault::KeyFault;
 pub use key::{Key, Keys};
@@ -19,3 +20,4 @@ pub use laws::{alike_documents, dotted_parts, normal_once, one_text, texts_of_ke
 pub use normal_form::normal;
 pub use plan::{Plan, Planned};
 pub use reading::keys;
+pub use well_formed::held_is_well_formed;

@@ -1,4 +1,4 @@
-use Rattle.std.proofs.Common.{◌≡◌, ◌∙◌, sym, ap, subst, IfOk, List, ℕ, ◌++◌, ◌∷◌, [], map}
+use Rattle.std.proofs.Common.{◌≡◌, ◌∙◌, ap, subst, IfOk, List, ℕ, ◌++◌, ◌∷◌, []}
 use Rattle.bson_value.specs.declared.value.Value.{Value, Array}
 use Rattle.bson_value.specs.Spelling.{document_text}
 use Rattle.bson_value.specs.Alike.{by_name, ordered, ordered_fields}

@@ -1,7 +1,6 @@
-use Rattle.std.proofs.Common.{◌≡◌, ◌++◌, ◌∷◌, [], sym, ap, ◌∙◌, subst, ℕ, List}
+use Rattle.std.proofs.Common.{◌++◌, ◌∷◌, [], sym, ap, ◌∙◌, ℕ, List}
 use Rattle.extjson.specs.Plain.{wrapped_numbers}
-use Rattle.json_tree.specs.declared.tree.Tree.{Tree}
-use Rattle.index_keys.specs.Definition.{is_one_of, placed, Members}
+use Rattle.index_keys.specs.Definition.{is_one_of, placed}
 use Rattle.index_keys.proofs.Others.{with_other, without_placed}
 use Rattle.index_keys.proofs.normal_form.put_others.Goals.{then-not-is_placed+in_ok-put, else-not-is_placed}
 use Rattle.index_keys.proofs.normal_form.put_others.Goals as goal

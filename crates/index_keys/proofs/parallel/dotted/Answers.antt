@@ -1,4 +1,4 @@
-use Rattle.std.proofs.Common.{◌≡◌, ◌++◌, ◌∷◌, [], sym, ap, ◌∙◌, ℕ, List, length}
+use Rattle.std.proofs.Common.{◌++◌, sym, ap, ◌∙◌, ℕ, List, length}
 use Rattle.index_keys.specs.Faults.{dotted, behind_dots}
 use Rattle.index_keys.proofs.Ways.{no_name_left}
 use Rattle.index_keys.proofs.Dots.{dotted_is}

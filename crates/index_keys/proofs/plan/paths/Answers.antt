@@ -1,7 +1,6 @@
-use Rattle.std.proofs.Common.{◌≡◌, sym, ap, ◌∙◌, subst, List, take, true, take_all}
+use Rattle.std.proofs.Common.{sym, ap, ◌∙◌, take_all}
 use Rattle.std.specs.List.{list_all}
-use Rattle.index_keys.specs.Definition.{is_plain_field, all_apart, paths_of, Members}
-use Rattle.index_keys.specs.Branches.{Path}
+use Rattle.index_keys.specs.Definition.{is_plain_field, all_apart, paths_of}
 use Rattle.index_keys.proofs.Loops.{one_fails}
 use Rattle.index_keys.proofs.Built.{no_path, not_plain, none_built, not_apart, all_built}
 use Rattle.index_keys.proofs.plan.paths.Goals as goal
