@@ -1,0 +1,15 @@
+pub mod AlikeKeys
+pub mod FormedKeys
+pub mod OneText
+pub mod EachOnce
+pub mod NormalForms
+pub mod Loops
+pub mod Others
+pub mod Built
+pub mod Ways
+pub mod Tuples
+pub mod Nulls
+pub mod CellValues
+pub mod Meeting
+pub mod Dots
+pub mod Spelled
