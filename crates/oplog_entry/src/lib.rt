@@ -1,0 +1,10 @@
+//! Entries of the oplog: their documents in both forms of updates, and what a document is read as.
+#![tactic(auto)]
+
+mod entry;
+mod fault;
+mod laws;
+
+pub use entry::{Action, Entry};
+pub use fault::EntryFault;
+pub use laws::{entry_reads_back, written_is_document, written_is_read};
