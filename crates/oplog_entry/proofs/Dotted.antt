@@ -15,7 +15,7 @@ use Rattle.oplog_entry.specs.Written.{Fields, path_of, path_set, path_gone, sect
 use Rattle.oplog_entry.specs.Reads.{Read, at_path, path_fields, v1_field, each_field, update_read}
 use Rattle.oplog_entry.specs.Laws.{IsPlain, ArePlain, IsPlainStep, SameEdits, WrittenIsRead1}
 use Rattle.oplog_entry.proofs.Lists.{in_left, in_right, in_either, picked_in, picked_has}
-use Rattle.oplog_entry.proofs.Reading.{object_read, next_read}
+use Rattle.oplog_entry.proofs.Ordered.{object_read, next_read}
 use Rattle.oplog_entry.proofs.Blocks.{append_nil, picked_append}
 use Rattle.oplog_entry.proofs.Whole.{same_record}
 

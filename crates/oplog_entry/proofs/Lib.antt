@@ -1,6 +1,6 @@
 pub mod Lists
 pub mod Standing
-pub mod Reading
+pub mod Ordered
 pub mod Members
 pub mod Whole
 pub mod Dotted
@@ -14,3 +14,6 @@ pub mod Spelled
 pub mod Deep
 pub mod Distinct
 pub mod Entries
+pub mod Letters
+pub mod Pushes
+pub mod Diffs

@@ -13,7 +13,7 @@ use Rattle.oplog_entry.specs.Reads.{unset_of, set_of}
 use Rattle.oplog_entry.specs.Laws.{NewIsNamed, AllStand, SameEdits}
 use Rattle.oplog_entry.proofs.Lists.{one_part, own_part, in_left, in_right, in_either, picked_in, picked_has, mapped_in, mapped_has, gathered_in, gathered_has, once_has, rising_has}
 use Rattle.oplog_entry.proofs.Standing.{Low, ArrayEdit, in_object, in_list, list_is_array, somewhere, there, group_in, group_stands}
-use Rattle.oplog_entry.proofs.Reading.{below_order, document_order, length_edit, edit_at, part_order, array_order, order}
+use Rattle.oplog_entry.proofs.Ordered.{below_order, document_order, length_edit, edit_at, part_order, array_order, order}
 
 -- ---- what is spelled was there
 

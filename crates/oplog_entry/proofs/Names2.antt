@@ -15,7 +15,7 @@ use Rattle.oplog_entry.specs.Written.{Fields, a_name, d_name, u_name, i_name, l_
 use Rattle.oplog_entry.specs.Laws.{AllStand, PlacesOnce, HoldsDistinct, AllHoldDistinct, WrittenIsDocument2}
 use Rattle.oplog_entry.proofs.Lists.{one_part, in_either, picked_in, mapped_in, gathered_in}
 use Rattle.oplog_entry.proofs.Standing.{Low, in_object, in_list, list_is_array, somewhere, there, group_stands, group_in, behind_under}
-use Rattle.oplog_entry.proofs.Reading.{heads_named, parts_low}
+use Rattle.oplog_entry.proofs.Ordered.{heads_named, parts_low}
 use Rattle.oplog_entry.proofs.Blocks.{NoTwice, once_no_twice, rising_no_twice}
 use Rattle.oplog_entry.proofs.Whole.{stand}
 use Rattle.oplog_entry.proofs.Names.{apart, truth_distinct, int_distinct, Good, good_object, good_empty, good_next, good_append, section_name, good_section, good_picked, good_gathered}

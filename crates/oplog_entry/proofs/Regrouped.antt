@@ -8,7 +8,7 @@ use Rattle.oplog_entry.specs.Written.{gone, set, new, part_in, parts}
 use Rattle.oplog_entry.specs.Reads.{unset_of, set_of}
 use Rattle.oplog_entry.specs.Laws.{AllStand, SameEdits}
 use Rattle.oplog_entry.proofs.Lists.{own_part, in_left, in_right, in_either, picked_in, picked_has, mapped_has, once_in, rising_in}
-use Rattle.oplog_entry.proofs.Reading.{below_order, document_order, length_edit, edit_at, part_order, array_order, order}
+use Rattle.oplog_entry.proofs.Ordered.{below_order, document_order, length_edit, edit_at, part_order, array_order, order}
 use Rattle.oplog_entry.proofs.Members.{group_has}
 use Rattle.oplog_entry.proofs.Blocks.{picked_append, picked_none, gathered_same, gathered_none, mapped_none, picked_gathered, NoTwice, one_block, once_blocks, once_no_twice, rising_no_twice, rising_again, behind_own, behind_other, firsts_are}
 

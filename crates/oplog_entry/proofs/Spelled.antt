@@ -13,7 +13,7 @@ use Rattle.oplog_entry.specs.Reads.{unset_of, set_of}
 use Rattle.oplog_entry.specs.Laws.{AllStand, SameEdits}
 use Rattle.oplog_entry.proofs.Lists.{one_part, own_part}
 use Rattle.oplog_entry.proofs.Standing.{in_object, in_list, list_is_array, somewhere, there, group_stands, not_array, some_array}
-use Rattle.oplog_entry.proofs.Reading.{document_order, length_edit, edit_at, part_order, array_order, order}
+use Rattle.oplog_entry.proofs.Ordered.{document_order, length_edit, edit_at, part_order, array_order, order}
 use Rattle.oplog_entry.proofs.Members.{same_edits}
 use Rattle.oplog_entry.proofs.Blocks.{append_nil, gathered_same, gathered_none, mapped_none, mapped_own, one_block, other_part}
 use Rattle.oplog_entry.proofs.Regrouped.{A, B, C, S, L, U, four, below_none, heads_again, group_again, head_there, two, part_two, array_parts, array_group, parts_no_twice, lengths_none, sets_none, part_there, order_nil, stand_again}

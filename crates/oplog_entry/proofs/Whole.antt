@@ -13,7 +13,7 @@ use Rattle.oplog_entry.specs.Written.{Fields, diff, is_array, diff_name, v_name,
 use Rattle.oplog_entry.specs.Reads.{has_a, diff_read, outermost, v2_field, update_read}
 use Rattle.oplog_entry.specs.Laws.{AllStand, SameEdits, Writable2, WrittenIsRead2}
 use Rattle.oplog_entry.proofs.Standing.{not_array}
-use Rattle.oplog_entry.proofs.Reading.{object_read, no_a, order, read_order}
+use Rattle.oplog_entry.proofs.Ordered.{object_read, no_a, order, read_order}
 use Rattle.oplog_entry.proofs.Members.{same_edits}
 use Rattle.oplog_entry.proofs.Spelled.{spelled_again}
 

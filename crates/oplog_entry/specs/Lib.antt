@@ -7,3 +7,5 @@ pub mod Distinct
 pub mod Spelling
 pub mod Reading
 pub mod Writable
+pub mod Answers
+pub mod DiffFields

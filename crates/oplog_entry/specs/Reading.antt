@@ -252,3 +252,10 @@ abbrev pub entry_of : Fields → Read Entry
 entry_of fs = do
   ts ← field stamp_in (codes "ts") fs
   read_at (group_of ts) ts fs
+
+-- `ts` and the text of `ns`, or the first fault of the two
+abbrev pub head_of : Fields → Read (Ts × List ℕ)
+head_of fs = do
+  ts ← field stamp_in (codes "ts") fs
+  text ← field text_in (codes "ns") fs
+  Ok (ts, text)
