@@ -1,0 +1,8 @@
+use Rattle.std.proofs.Common.{◌≡◌, ◌++◌, take}
+use Rattle.oplog_entry.specs.Edits.{mapped}
+use Rattle.oplog_entry.specs.Reads.{set_of}
+use Rattle.oplog_entry.specs.DiffFields.{at_front}
+use Rattle.oplog_entry.proofs.delta.push_sets.Given as goal
+
+abbrev pub invariant-loop-name : goal.invariant-loop-name
+invariant-loop-name l = l.touches ≡ l.initial.touches ++ mapped (λ f. at_front l.front (set_of l.fresh f)) (take l.name-index l.name-items)
