@@ -44,9 +44,18 @@ fn lists(rt: &impl Abort, alloc: Global, text: &str, shown: &str) -> Result<(), 
     let line = format!(in alloc; "doc {shown}\n")?;
     let mut spelled = Lines::new(alloc);
     let mut built = Lines::new(alloc);
-    assert_eq!(rt; spelled.line(Held::Spelled(view), ListForm::Json)?, line.as_bytes());
-    assert_eq!(rt; built.line(Held::Built(&doc), ListForm::Json)?, line.as_bytes());
-    assert_eq!(rt; spelled.line(Held::Spelled(view), ListForm::Hex)?, built.line(Held::Built(&doc), ListForm::Hex)?);
+    assert_eq!(rt;
+        spelled.line(Held::Spelled(view), ListForm::Json)?,
+        line.as_bytes()
+    );
+    assert_eq!(rt;
+        built.line(Held::Built(&doc), ListForm::Json)?,
+        line.as_bytes()
+    );
+    assert_eq!(rt;
+        spelled.line(Held::Spelled(view), ListForm::Hex)?,
+        built.line(Held::Built(&doc), ListForm::Hex)?
+    );
     Ok(())
 }
 
@@ -64,6 +73,9 @@ fn hexadecimal_has_the_fields_in_order(rt: HostRuntime) -> Result<(), Fail> {
     let doc = document(rt.alloc(), r#"{"b":null,"a":[true]}"#)?;
     let mut lines = Lines::new(rt.alloc());
     let line = lines.line(Held::Built(&doc), ListForm::Hex)?;
-    assert_eq!(rt; line, b"doc 140000000461000900000008300001000a620000\n".as_slice());
+    assert_eq!(rt;
+        line,
+        b"doc 140000000461000900000008300001000a620000\n".as_slice()
+    );
     Ok(())
 }
