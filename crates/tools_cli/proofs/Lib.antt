@@ -1,7 +1,7 @@
 pub mod Behind
+pub mod DecimalTexts
 pub mod Due
 pub mod Numbers
 pub mod Reading
-pub mod Numbers
 pub mod Stopped
 pub mod Telling

@@ -1,7 +1,7 @@
 use Rattle.std.proofs.Common.{◌≡◌, true, false, sym, ap, ◌∙◌, arith}
 use Rattle.std.specs.Str.{bytes_eq}
 use Rattle.std.proofs.lemmas.Slice.Eq.{bytes_eq-Decides}
-use Rattle.tools_cli.proofs.Numbers.{is_number, no_number, other_digits}
+use Rattle.tools_cli.proofs.DecimalTexts.{is_number, no_number, other_digits}
 use Rattle.tools_cli.proofs.value.number.Goals as goal
 
 pub returns-in-Err : goal.returns-in-Err
