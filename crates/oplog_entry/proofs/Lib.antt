@@ -17,3 +17,4 @@ pub mod Entries
 pub mod Letters
 pub mod Pushes
 pub mod Diffs
+pub mod PathParts

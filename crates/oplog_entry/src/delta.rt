@@ -183,7 +183,11 @@ fn push_sets(
     for (name, value) in fields.entries() {
         let place = place_behind(alloc, front, Part::Name(name.copy(alloc)?))?;
         let value = value.copy(alloc)?;
-        touches.push(Touch::Set { place, value, fresh })?;
+        touches.push(Touch::Set {
+            place,
+            value,
+            fresh,
+        })?;
     }
     Ok(())
 }
@@ -234,7 +238,11 @@ fn push_element(
     let place = place_behind(alloc, front, Part::Index(at))?;
     let value = value.copy(alloc)?;
     let fresh = false;
-    touches.push(Touch::Set { place, value, fresh })?;
+    touches.push(Touch::Set {
+        place,
+        value,
+        fresh,
+    })?;
     Ok(())
 }
 

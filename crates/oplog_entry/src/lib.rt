@@ -6,6 +6,7 @@ mod entry;
 mod fault;
 mod fields;
 mod laws;
+mod paths;
 mod reading;
 
 pub use entry::{Action, Entry};

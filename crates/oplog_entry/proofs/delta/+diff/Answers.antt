@@ -35,10 +35,10 @@ diff-returns-in_err-field-clause-err t c =
     let here : Read = by_kind (diff_read (c.args.levels - 1)) c.in-Some.kind c.loop-name-item.result.1 in
     if_err c.from_residual-in_err-field.result _ _ c.from_residual-in_err-field.ensures.1
     (λ x p. bad_so x here (diff_at c.args.front.now c.args.levels c.args.doc.now)
-        (λ h. whole ∙ (ap (all_read read) (sym c.entries-name-items.ensures.entries)
-        ∙ bad_one read c.entries-name-items.result.now c.loop-name.name-index c.loop-name-item.result c.loop-name-test.true c.loop-name-item.is
-        (ap (λ (k : Option DiffField). by_name (diff_read (c.args.levels - 1)) k c.loop-name-item.result.1) (sym c.in_ok-kind.ensures ∙ c.in-Some.is) ∙ h)))
-        (subst (λ (e : DeltaFault). IsBad e here) (sym p) c.in_err-field.ensures.err))
+    (λ h. whole ∙ (ap (all_read read) (sym c.entries-name-items.ensures.entries)
+    ∙ bad_one read c.entries-name-items.result.now c.loop-name.name-index c.loop-name-item.result c.loop-name-test.true c.loop-name-item.is
+    (ap (λ (k : Option DiffField). by_name (diff_read (c.args.levels - 1)) k c.loop-name-item.result.1) (sym c.in_ok-kind.ensures ∙ c.in-Some.is) ∙ h)))
+    (subst (λ (e : DeltaFault). IsBad e here) (sym p) c.in_err-field.ensures.err))
 
 pub diff-loop-name-preserved : goal.diff-loop-name-preserved
 diff-loop-name-preserved t c =
