@@ -1,11 +1,12 @@
 //! Places that the paths of the first form name.
-ghost use Rattle.std.specs.Prelude.{◌≡◌, IfOk, Contains};
+ghost use Rattle.std.specs.Prelude.{◌≡◌, ◌++◌, IfOk, OnOk, Contains};
 ghost use Rattle.doc_path.specs.declared.parts.Part.TheVariants.{Name};
 ghost use Rattle.doc_path.specs.Paths.{parts_of};
 ghost use Rattle.oplog_entry.specs.Edits.{mapped};
+ghost use Rattle.oplog_entry.specs.PathTouches.{path_set, path_unset};
 
-use bson_value::CText;
-use doc_path::{Part, Place};
+use bson_value::{CText, Doc, List};
+use doc_path::{Part, Place, Touch};
 use std::alloc::{AllocError, Global};
 
 fn name_part(alloc: Global, text: &str) -> Result<Part, AllocError>
@@ -31,4 +32,40 @@ pub(crate) fn path_place(alloc: Global, path: &str) -> Result<Place, AllocError>
     }
     place.push(name_part(alloc, rest)?)?;
     Ok(place)
+}
+
+/// A Set at each path.
+pub(crate) fn push_path_sets(
+    alloc: Global,
+    fields: &Doc,
+    touches: &mut List<Touch>,
+) -> Result<(), AllocError>
+    ensures { OnOk result (touches.new ≡ touches.old ++ mapped path_set fields.now) }
+{
+    for (path, value) in fields.entries() {
+        let place = path_place(alloc, path.as_str())?;
+        let value = value.copy(alloc)?;
+        let fresh = false;
+        touches.push(Touch::Set {
+            place,
+            value,
+            fresh,
+        })?;
+    }
+    Ok(())
+}
+
+/// An Unset at each path.
+pub(crate) fn push_path_unsets(
+    alloc: Global,
+    fields: &Doc,
+    touches: &mut List<Touch>,
+) -> Result<(), AllocError>
+    ensures { OnOk result (touches.new ≡ touches.old ++ mapped path_unset fields.now) }
+{
+    for (path, _) in fields.entries() {
+        let place = path_place(alloc, path.as_str())?;
+        touches.push(Touch::Unset { place })?;
+    }
+    Ok(())
 }
