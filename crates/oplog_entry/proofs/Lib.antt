@@ -18,3 +18,4 @@ pub mod Letters
 pub mod Pushes
 pub mod Diffs
 pub mod PathParts
+pub mod PathFields

@@ -8,6 +8,7 @@ mod fields;
 mod laws;
 mod paths;
 mod reading;
+mod update;
 
 pub use entry::{Action, Entry};
 pub use fault::EntryFault;
