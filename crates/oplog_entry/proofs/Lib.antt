@@ -19,3 +19,4 @@ pub mod Pushes
 pub mod Diffs
 pub mod PathParts
 pub mod PathFields
+pub mod UpdateFields

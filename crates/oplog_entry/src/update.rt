@@ -1,11 +1,14 @@
 //! The fields of an update's `o`.
-ghost use Rattle.std.specs.Prelude.{[], OnOk, IfErr};
+ghost use Rattle.std.specs.Prelude.{◌≡◌, [], Ok, OnOk, IfOk, IfErr};
+ghost use Rattle.oplog_entry.specs.Answers.{Fails};
 ghost use Rattle.oplog_entry.specs.DiffFields.{Adds, IsBad};
-ghost use Rattle.oplog_entry.specs.PathTouches.{form_field};
+ghost use Rattle.oplog_entry.specs.PathTouches.{form_field, fields_touches};
 
 use crate::delta::{DeltaFault, diff};
+use crate::fault::EntryFault;
+use crate::fields::bad;
 use crate::paths::{push_path_sets, push_path_unsets};
-use bson_value::{List, Value};
+use bson_value::{Doc, List, Value};
 use doc_path::{Form, Touch};
 use std::alloc::Global;
 
@@ -45,4 +48,20 @@ pub(crate) fn update_field(
             }
         }
     }
+}
+
+/// The touches of all fields of an update in this form.
+pub(crate) fn update_touches(alloc: Global, form: Form, o: &Doc) -> Result<List<Touch>, EntryFault>
+    ensures ok { IfOk result (λ ts. fields_touches form o.now ≡ Ok ts) }
+    ensures err { IfErr result (λ e. Fails e (fields_touches form o.now)) }
+{
+    let mut touches = List::new(alloc);
+    for (name, value) in o.entries() {
+        match update_field(alloc, form, name.as_str(), value, &mut touches) {
+            Ok(()) => {}
+            Err(DeltaFault::NoMemory) => return Err(EntryFault::NoMemory),
+            Err(DeltaFault::Bad) => return Err(bad(alloc, name.as_str())),
+        }
+    }
+    Ok(touches)
 }
