@@ -178,3 +178,6 @@ pub below_kind : (front : List Part) (r : Part) (n : ℕ) (fs : Fields) (kind : 
 below_kind front r n fs kind v old new k e h =
     subst (λ (o : Read). Adds front o old new)
     (sym ((λ i. by_kind (diff_read n) (k i) (e i)) ∙ ap (λ (x : Value-F Value). option_map (mapped (under r)) (object_in (diff_read n) x)) (outs-Object fs))) h
+
+pub if_bad : {T : Type 0} (r : Result T DeltaFault) (o s : Read) → o ≡ s → IfErr r (λ e. IsBad e s) → IfErr r (λ e. IsBad e o)
+if_bad {T} r o s e h = subst (λ (x : Read). IfErr r (λ f. IsBad f x)) (sym e) h

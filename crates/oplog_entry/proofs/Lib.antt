@@ -17,3 +17,6 @@ pub mod Entries
 pub mod Letters
 pub mod Pushes
 pub mod Diffs
+pub mod PathParts
+pub mod PathFields
+pub mod UpdateFields

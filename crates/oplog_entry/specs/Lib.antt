@@ -9,3 +9,4 @@ pub mod Reading
 pub mod Writable
 pub mod Answers
 pub mod DiffFields
+pub mod PathTouches

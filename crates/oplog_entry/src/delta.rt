@@ -288,7 +288,7 @@ fn field(
 
 /// The touches of a diff of at most `levels` levels, which stand behind a front.
 #[cycle(diff)]
-fn diff(
+pub(crate) fn diff(
     alloc: Global,
     levels: usize,
     front: &[Part],

@@ -6,7 +6,9 @@ mod entry;
 mod fault;
 mod fields;
 mod laws;
+mod paths;
 mod reading;
+mod update;
 
 pub use entry::{Action, Entry};
 pub use fault::EntryFault;

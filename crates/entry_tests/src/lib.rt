@@ -1,0 +1,5 @@
+//! Worked entries of the oplog.
+#![tactic(auto)]
+
+#[cfg(test)]
+mod heads;

@@ -1,0 +1,7 @@
+use Rattle.std.proofs.Common.{◌≡◌, ◌++◌, take}
+use Rattle.oplog_entry.specs.Edits.{mapped}
+use Rattle.oplog_entry.specs.PathTouches.{path_unset}
+use Rattle.oplog_entry.proofs.paths.push_path_unsets.Given as goal
+
+abbrev pub invariant-loop-path : goal.invariant-loop-path
+invariant-loop-path l = l.touches ≡ l.initial.touches ++ mapped path_unset (take l.path-index l.path-items)
