@@ -13,11 +13,11 @@ use crate::products::all_keys;
 use bson_view::Held;
 use std::alloc::Global;
 
-/// The keys of the document in the index of the plan, each once. A document in which two fields of the plan
-/// meet an array is refused. A key of 2^31 bytes or more finds no memory.
+/// The keys of the document in an index of the plan, each once. A document in which two fields of the
+/// plan meet arrays is refused. A key of 2^31 bytes or more finds no memory.
 ///
-/// It walks the document along each path, where it lies. It makes as many keys as the numbers of branches of the fields,
-/// multiplied, and copies the values of each.
+/// It walks the document along each path, where it lies. As many keys are written as the numbers of the
+/// branches of the fields, multiplied: where one field meets an array, about one for each element.
 pub fn keys(alloc: Global, plan: &Plan, doc: Held<'_>) -> Result<Keys, KeyFault>
     ensures keys { IfOk result (λ ks. ks ≡ key_texts plan.now (held_document doc.entry)) }
     ensures apart { OnOk result (parallel plan.now (held_document doc.entry) ≡ None) }
