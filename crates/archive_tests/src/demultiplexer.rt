@@ -246,7 +246,7 @@ fn an_archive_that_is_cut_at_each_byte(rt: HostRuntime) -> Result<(), Fail> {
     for cut in 0..whole.len() {
         let bytes = whole[..cut].to_vec(alloc)?;
         let (_, answer) = told(alloc, bytes, 1000, Vec::new(alloc), 99)?;
-        let truncated = format!(in alloc; "Err(Truncated {{ at: {cut} }})")?;
+        let truncated = format!(in alloc; "Err(Format(Truncated {{ at: {cut} }}))")?;
         let expected = if cut == 108 {
             "Ok(())"
         } else {
@@ -295,7 +295,7 @@ fn nested(alloc: Global, levels: u32) -> Result<Vec<u8>, AllocError> {
 #[test]
 fn as_deep_as_allowed_and_deeper(rt: HostRuntime) -> Result<(), Fail> {
     let alloc = rt.alloc();
-    let deep = "Err(BadBson { at: 160, kind: Deep })";
+    let deep = "Err(Format(BadBson { at: 160, kind: Deep }))";
     for (levels, expected) in [(200u32, "Ok(())"), (201, deep)] {
         let mut bytes = bytes_of(alloc, "P0 open")?;
         bytes.extend_from_slice(&nested(alloc, levels)?)?;
