@@ -150,12 +150,14 @@ fn in_rounds(
     sifted(end, body, left, second, 11562461410679940143, words, marks)
 }
 
-// The longest bodies whose names go into a small set, into a middle one and into a large one, and the longest whose names rarely share a slot of the largest set.
+// The longest bodies whose names go into a small set, into a middle one, into a large one and into a huge one, and the longest whose names rarely share a slot of that.
 const SMALL: usize = 1024;
 
 const MIDDLE: usize = 8192;
 
 const LARGE: usize = 32768;
+
+const HUGE: usize = 3145728;
 
 const SPARSE: usize = 131072;
 
@@ -253,6 +255,22 @@ fn in_huge(end: usize, body: &[u8], left: usize) -> Option<Option<usize>>
     )
 }
 
+// Its sets take 3 MiB of the stack.
+#[inline(never)]
+fn in_immense(end: usize, body: &[u8], left: usize) -> Option<Option<usize>>
+    requires fits { length body.now ≤ end }
+    ensures { (ns : List (List ℕ)) → (to : List ℕ) → Path ns body.now to → length to ≡ left → IfSome result (λ r. repeat_at end [] ns body.now ≡ r) }
+{
+    in_sets(
+        end,
+        body,
+        left,
+        &mut [0u64; 262144],
+        &mut [0u64; 65536],
+        &mut [0u64; 65536],
+    )
+}
+
 // Its tables take 640 KiB of the stack.
 #[inline(never)]
 fn sorted(end: usize, body: &[u8], left: usize) -> Option<usize>
@@ -283,8 +301,10 @@ fn in_any_set(end: usize, body: &[u8], left: usize) -> Option<Option<usize>>
         in_middle(end, body, left)
     } else if body.len() <= LARGE {
         in_large(end, body, left)
-    } else {
+    } else if body.len() <= HUGE {
         in_huge(end, body, left)
+    } else {
+        in_immense(end, body, left)
     }
 }
 
@@ -305,9 +325,9 @@ const FEW: u32 = 1;
 
 /// The first name that stands before it too, by its place, among the elements before the last `left` bytes.
 ///
-/// It takes no memory, and at most 768 KiB of the stack. Names that rise take one walk. In another order some 13,000
-/// take one too, some 500,000 two, and the 2,800,000 that 16 MiB hold at most five. Names that are chosen to share
-/// their slots in every round are sorted in blocks of 32,768, and the names behind a block are looked for in it:
+/// It takes no memory, and at most 768 KiB of the stack, or 3 MiB for a body of more than 3 MiB. Names that rise take
+/// one walk. In another order some 13,000 take one too, and the 2,800,000 that 16 MiB hold mostly two. Names that are
+/// chosen to share their slots in every round are sorted in blocks of 32,768, and the names behind a block are looked for in it:
 /// n log n steps for n names, and n * n / 65,536 short ones, which is some seconds for 2,000,000 names.
 /// A body of more than 4,294,967,295 bytes, as no document has one, is searched name by name.
 pub fn first_repeat(end: usize, body: &[u8], left: usize) -> Option<usize>

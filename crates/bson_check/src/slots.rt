@@ -1,4 +1,4 @@
-//! A set of names that may hold more than was put in, two bits for each slot of a name.
+//! A set of names that may hold more than was put in, three bits for each slot of a name.
 ghost use Rattle.std.specs.Prelude.{◌≡◌, ◌<◌, ℕ, List, IsTrue, Contains, length};
 ghost use Rattle.bson_check.specs.Blocks.{name_at};
 ghost use Rattle.bson_check.specs.Slots.{slot_of, word_of, HasBits, IsMarked};
@@ -19,14 +19,14 @@ fn slot(factor: u64, name: &[u8]) -> u64
     hash
 }
 
-// The upper 16 bits of a slot say which word, and the next 12 which bits of it. The lower bits of a product are mixed too little.
+// The upper 18 bits of a slot say which word, and the next 18 which bits of it. The lower bits of a product are mixed too little.
 #[tactic(auto, using(std::proofs::lemmas::Nat::and_le_r))]
 fn word(slot: u64, words: usize) -> usize
     requires { 0 < words }
     ensures value { result ≡ word_of words slot }
     ensures within { result < words }
 {
-    (slot / 281474976710656) as usize & (words - 1)
+    (slot / 70368744177664) as usize & (words - 1)
 }
 
 fn has_bits(words: &[u64], slot: u64) -> bool
@@ -35,10 +35,13 @@ fn has_bits(words: &[u64], slot: u64) -> bool
 {
     let at = word(slot, words.len());
     let word = words[at];
-    if word >> (slot / 4398046511104 % 64) & 1 != 1 {
+    if word >> (slot / 1099511627776 % 64) & 1 != 1 {
         return false;
     }
-    word >> (slot / 68719476736 % 64) & 1 == 1
+    if word >> (slot / 17179869184 % 64) & 1 != 1 {
+        return false;
+    }
+    word >> (slot / 268435456 % 64) & 1 == 1
 }
 
 fn set_bits(words: &mut [u64], slot: u64)
@@ -47,8 +50,9 @@ fn set_bits(words: &mut [u64], slot: u64)
     ensures others { (s : ℕ) → HasBits words.old s → HasBits words.new s }
 {
     let at = word(slot, words.len());
-    words[at] |= 1 << (slot / 4398046511104 % 64);
-    words[at] |= 1 << (slot / 68719476736 % 64);
+    words[at] |= 1 << (slot / 1099511627776 % 64);
+    words[at] |= 1 << (slot / 17179869184 % 64);
+    words[at] |= 1 << (slot / 268435456 % 64);
 }
 
 // Puts the name into the set, and says whether it may have been there.
