@@ -3,3 +3,4 @@ mod Maps
 mod Fronts
 mod Texts
 mod Sound
+mod Counts

@@ -17,9 +17,12 @@ use Rattle.restore_base.specs.declared.collections.Kept.{Kept}
 use Rattle.restore_base.specs.Kept.{taking_of, takings_in}
 use Rattle.restore_base.specs.Taken.{count_of}
 use Rattle.restore_base.specs.declared.collections.Stop.{Stop}
-use Rattle.restore_base.specs.declared.collections.Stop.TheVariants.{NoId, Metadata, Indexed}
+use Rattle.restore_base.specs.declared.collections.Stop.TheVariants.{NoId, Metadata}
 use Rattle.restore_base.specs.Base.{is_of_collection, base, restored, metadata_stop, stop_at, or_later, first_stop, same_stop}
-use Rattle.restore_base.specs.Outcome.{Outcome, restores, refuses, stops, IsOutcome, IsReadTo, IsRefused, IsUnsettled, OnInput}
+use Rattle.index_build.specs.declared.fault.CountFault.{CountFault}
+use Rattle.state_listing.specs.Listing.{State}
+use Rattle.restore_base.specs.Indexes.{index_fault}
+use Rattle.restore_base.specs.Outcome.{Outcome, restores, refuses, stops, fails, RestoresTo, IsOutcome, IsReadTo, IsRefused, IsUnsettled, OnInput}
 
 -- ---- one outcome
 
@@ -48,24 +51,54 @@ same_reason bytes ts us e f s t p q a b =
     let k = ap first_stop (once bytes ts us e f p q).0 in
     let x : Some s ≡ Some t = sym a ∙ (k ∙ b) in cc
 
+one_state : (bytes : List ℕ) (s t : State) → RestoresTo bytes s → RestoresTo bytes t → s ≡ t
+one_state bytes s t a b = a.3 ∙ (same_state bytes a.0 b.0 a.1 b.1 ∙ sym b.3)
+
+never_refused : (bytes : List ℕ) (s : State) (ts : List Taking) (f : FormatFault) → RestoresTo bytes s → EndsOf bytes ts (Some f) → ⊥
+never_refused bytes s ts f a b = never_fault bytes a.0 ts f (content_ends bytes a.0 a.1) b
+
+never_stopped : (bytes : List ℕ) (s : State) (ts : List Taking) (e : Option FormatFault) (t : Stop) → RestoresTo bytes s → EndsOf bytes ts e → first_stop ts ≡ Some t → ⊥
+never_stopped bytes s ts e t a b is = never_both bytes a.0 ts None e t (content_ends bytes a.0 a.1) b a.2 is
+
+never_failed : (bytes : List ℕ) (s t : State) (f : CountFault) → RestoresTo bytes s → RestoresTo bytes t → index_fault s ≡ None → index_fault t ≡ Some f → ⊥
+never_failed bytes s t f a b none some =
+    let k = ap index_fault (one_state bytes s t a b) in
+    let x : None ≡ Some f = sym none ∙ (k ∙ some) in cc
+
+same_failure : (bytes : List ℕ) (s t : State) (f h : CountFault) → RestoresTo bytes s → RestoresTo bytes t → index_fault s ≡ Some f → index_fault t ≡ Some h → f ≡ h
+same_failure bytes s t f h a b one other =
+    let k = ap index_fault (one_state bytes s t a b) in
+    let x : Some f ≡ Some h = sym one ∙ (k ∙ other) in cc
+
 pub outcome_once : (bytes : List ℕ) (o p : Outcome) → IsOutcome bytes o → IsOutcome bytes p → o ≡ p
-outcome_once bytes (restores s) (restores t) a b = ap restores (a.3 ∙ (same_state bytes a.0 b.0 a.1 b.1 ∙ sym b.3))
-outcome_once bytes (restores s) (refuses f) a b = absurd (never_fault bytes a.0 b.0 f (content_ends bytes a.0 a.1) b.1)
-outcome_once bytes (restores s) (stops t) a b = absurd (never_both bytes a.0 b.0 None b.1 t (content_ends bytes a.0 a.1) b.2 a.2 b.3)
-outcome_once bytes (refuses f) (restores t) a b = absurd (never_fault bytes b.0 a.0 f (content_ends bytes b.0 b.1) a.1)
+outcome_once bytes (restores s) (restores t) a b = ap restores (one_state bytes s t a.0 b.0)
+outcome_once bytes (restores s) (refuses f) a b = absurd (never_refused bytes s b.0 f a.0 b.1)
+outcome_once bytes (restores s) (stops t) a b = absurd (never_stopped bytes s b.0 b.1 t a.0 b.2 b.3)
+outcome_once bytes (restores s) (fails f) a b = absurd (never_failed bytes s b.0 f a.0 b.1 a.1 b.2)
+outcome_once bytes (fails f) (restores s) a b = absurd (never_failed bytes s a.0 f b.0 a.1 b.1 a.2)
+outcome_once bytes (fails f) (refuses h) a b = absurd (never_refused bytes a.0 b.0 h a.1 b.1)
+outcome_once bytes (fails f) (stops t) a b = absurd (never_stopped bytes a.0 b.0 b.1 t a.1 b.2 b.3)
+outcome_once bytes (fails f) (fails h) a b = ap fails (same_failure bytes a.0 b.0 f h a.1 b.1 a.2 b.2)
+outcome_once bytes (refuses f) (fails h) a b = absurd (never_refused bytes b.0 a.0 f b.1 a.1)
+outcome_once bytes (stops s) (fails h) a b = absurd (never_stopped bytes b.0 a.0 a.1 s b.1 a.2 a.3)
+outcome_once bytes (refuses f) (restores t) a b = absurd (never_refused bytes t a.0 f b.0 a.1)
 outcome_once bytes (refuses f) (refuses h) a b = ap refuses (same_fault bytes a.0 b.0 f h a.1 b.1)
 outcome_once bytes (refuses f) (stops t) a b = absurd (never_both bytes a.0 b.0 (Some f) b.1 t a.1 b.2 a.2 b.3)
-outcome_once bytes (stops s) (restores t) a b = absurd (never_both bytes b.0 a.0 None a.1 s (content_ends bytes b.0 b.1) a.2 b.2 a.3)
+outcome_once bytes (stops s) (restores t) a b = absurd (never_stopped bytes t a.0 a.1 s b.0 a.2 a.3)
 outcome_once bytes (stops s) (refuses f) a b = absurd (never_both bytes b.0 a.0 (Some f) a.1 s b.1 a.2 b.2 a.3)
 outcome_once bytes (stops s) (stops t) a b = ap stops (same_reason bytes a.0 b.0 a.1 b.1 s t a.2 b.2 a.3 b.3)
 
 abbrev Some_outcome : List ℕ → Type 0
 Some_outcome bytes = (o : Outcome) × IsOutcome bytes o
 
+by_indexes : (bytes : List ℕ) (s : State) (x : Option CountFault) → index_fault s ≡ x → RestoresTo bytes s → Some_outcome bytes
+by_indexes bytes s None is r = (restores s, (r, is))
+by_indexes bytes s (Some f) is r = (fails f, (s, r, is))
+
 by_end : (bytes : List ℕ) (ts : List Taking) (e : Option FormatFault) (x : Option Stop) → first_stop ts ≡ x → EndsOf bytes ts e → Some_outcome bytes
 by_end bytes ts e (Some s) is p = (stops s, (ts, e, p, is))
 by_end bytes ts (Some f) None is p = (refuses f, (ts, p, is))
-by_end bytes ts None None is p = (restores (restored ts), (ts, ends_content bytes ts p, is, refl))
+by_end bytes ts None None is p = by_indexes bytes (restored ts) (index_fault (restored ts)) refl (ts, ends_content bytes ts p, is, refl)
 
 pub outcome_total : (bytes : List ℕ) → Some_outcome bytes
 outcome_total bytes =
@@ -120,19 +153,13 @@ same_names n m e =
 one_reason : (s : Stop) (o : Option Stop) → same_stop (Some s) o ≡ true → o ≡ Some s
 one_reason (NoId n) (Some (NoId m)) e = ap (λ k. Some (NoId k)) (sym (same_names n m e))
 one_reason (NoId n) (Some (Metadata m b)) e = cc
-one_reason (NoId n) (Some Indexed) e = cc
 one_reason (NoId n) None e = cc
 one_reason (Metadata n a) (Some (NoId m)) e = cc
 one_reason (Metadata n a) (Some (Metadata m b)) e =
     let k = both (same_ns n m) (a == b) e in
     let at : a ≡ b = (unsigned_Decides a b).0 k.1 in
     λ i. Some (Metadata (sym (same_names n m k.0) i) (sym at i))
-one_reason (Metadata n a) (Some Indexed) e = cc
 one_reason (Metadata n a) None e = cc
-one_reason Indexed (Some (NoId m)) e = cc
-one_reason Indexed (Some (Metadata m b)) e = cc
-one_reason Indexed (Some Indexed) e = refl
-one_reason Indexed None e = cc
 
 -- ---- what a run tells
 
@@ -143,7 +170,7 @@ module _ (c0 c : List Taking) (begins : c0 ≡ []) (fine : first_stop c ≡ None
   taken : (given : List Taking) → c ≡ c0 ++ filter is_of_collection given → first_stop given ≡ None
   taken given e = sym (first_stop-filter given) ∙ (ap first_stop (sym (kept given e)) ∙ fine)
 
-  pub restores_all : (all : List ℕ) → Whole all None is_of_collection (Some c0) (Some c) → IsOutcome all (restores (base c))
+  pub restores_all : (all : List ℕ) → Whole all None is_of_collection (Some c0) (Some c) → RestoresTo all (base c)
   restores_all all w = (w.given, ends_content all w.given w.ends, taken w.given w.took, ap base (kept w.given w.took))
 
   -- what was given is of the front, and none of it is refused
@@ -162,7 +189,7 @@ module _ (c0 c : List Taking) (begins : c0 ≡ []) (fine : first_stop c ≡ None
   told_format None now f why rose w = tt
   told_format (Some all) now f why rose w = refuses_all all now f w
 
-  pub told_restored : (first now : Option (List ℕ)) → End_told first now is_of_collection (Some c0) (Some c) → OnInput first (λ all. (now ≡ Some []) × IsOutcome all (restores (base c)))
+  pub told_restored : (first now : Option (List ℕ)) → End_told first now is_of_collection (Some c0) (Some c) → OnInput first (λ all. (now ≡ Some []) × RestoresTo all (base c))
   told_restored None now w = tt
   told_restored (Some all) now w = (w.0, restores_all all w.1)
 
@@ -185,6 +212,7 @@ unread (Some all) = record { given = []; fine = refl; reach = record { stage = s
 
 pub refused_once : (bytes : List ℕ) (now : Option (List ℕ)) (o : Outcome) → IsRefused bytes now o → IsOutcome bytes o
 refused_once bytes now (restores s) r = absurd r.1
+refused_once bytes now (fails f) r = absurd r.1
 refused_once bytes now (refuses f) r = (r.0.given, r.1, r.0.fine)
 refused_once bytes now (stops s) r =
     (r.0.given ++ (r.1.0 ∷ r.1.1), r.1.2, r.1.3, first_stop-append r.0.given (r.1.0 ∷ r.1.1) r.0.fine ∙ ap (λ x. or_later x (first_stop r.1.1)) r.1.4)

@@ -1,6 +1,6 @@
 -- The texts of the listing's parts.
-use Rattle.std.proofs.Common.{◌≡◌, ℕ, List, ◌++◌, length, map, sym, ap, ◌∙◌}
-use Rattle.std.specs.Prelude.{Vec}
+use Rattle.std.proofs.Common.{◌≡◌, ℕ, List, [], ◌∷◌, ◌++◌, length, map, refl, sym, ap, ◌∙◌}
+use Rattle.std.specs.Prelude.{Vec, Option}
 use Rattle.std.specs.List.{flat_map}
 use Rattle.std.specs.Borrow.{Bor}
 use Rattle.bson_view.specs.declared.view.View.{View}
@@ -9,9 +9,14 @@ use Rattle.std.proofs.lemmas.List.{length-map}
 use Rattle.std.proofs.lemmas.List.Folds.{flat_map-map}
 use Rattle.bson_value.specs.declared.namespace.NsName.{NsName}
 use Rattle.document_lines.specs.declared.form.ListForm.{ListForm}
-use Rattle.document_lines.specs.Lines.{document_line}
-use Rattle.state_listing.specs.Listing.{head_text, collection_text}
+use Rattle.document_lines.specs.Lines.{Document, document_line}
+use Rattle.json_tree.specs.declared.tree.Tree.{Tree}
+use Rattle.state_model.specs.Keys.{Key}
+use Rattle.coll_state.specs.Stock.{named as by_name}
+use Rattle.index_build.specs.Numbers.{number, numbers_of}
+use Rattle.state_listing.specs.Listing.{head_text, index_line, indexes_text, collection_text}
 use Rattle.restore_base.specs.Base.{Contents, collection}
+use Rattle.restore_base.specs.Numbers.{numbers_in, index_lines, contents_text}
 use Rattle.restore_base.specs.Gathered.{document_entry, collection_entry}
 use Rattle.restore_base.specs.declared.base.Held.{Held}
 
@@ -21,8 +26,14 @@ documents_text form es = flat_map (λ e. document_line form e.1) (map document_e
 abbrev pub collections_text : ListForm → List ((Bor (List ℕ) × Bor (List ℕ)) × Held) → List ℕ
 collections_text form es = flat_map (collection_text form) (map collection (map collection_entry es))
 
-pub collection_text_is : (form : ListForm) (n : NsName) (c : Contents) (count : ℕ) → count ≡ length c.documents
-    → collection_text form (collection (n, c)) ≡ head_text n.db n.coll count c.options ++ flat_map (λ e. document_line form e.1) c.documents
-collection_text_is form n c count e =
-    ap (λ k. head_text n.db n.coll k c.options ++ flat_map (document_line form) (map (λ e. e.1) c.documents)) (length-map c.documents (λ e. e.1) ∙ sym e)
-    ∙ ap (λ z. head_text n.db n.coll count c.options ++ z) (flat_map-map (document_line form) (λ e. e.1) c.documents)
+index_lines_are : (ds : List Document) (defs : List Tree) → index_lines (numbers_of (by_name defs) ds) defs ≡ indexes_text ds defs
+index_lines_are ds [] = refl
+index_lines_are ds (d ∷ defs) = ap (λ z. index_line (number d ds) d ++ z) (index_lines_are ds defs)
+
+pub collection_text_is : (form : ListForm) (n : NsName) (c : Contents) (count : ℕ) (numbers : List (Key × Option ℕ)) → count ≡ length c.documents → numbers ≡ numbers_in c
+    → collection_text form (collection (n, c)) ≡ head_text n.db n.coll count c.options ++ contents_text form numbers c
+collection_text_is form n c count numbers e is =
+    let docs = map (λ e. e.1) c.documents in
+    ap (λ k. head_text n.db n.coll k c.options ++ indexes_text docs c.definitions ++ flat_map (document_line form) docs) (length-map c.documents (λ e. e.1) ∙ sym e)
+    ∙ (ap (λ z. head_text n.db n.coll count c.options ++ z ++ flat_map (document_line form) docs) (sym (index_lines_are docs c.definitions) ∙ ap (λ ns. index_lines ns c.definitions) (sym is))
+    ∙ ap (λ z. head_text n.db n.coll count c.options ++ index_lines numbers c.definitions ++ z) (flat_map-map (document_line form) (λ e. e.1) c.documents))

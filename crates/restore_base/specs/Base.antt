@@ -12,13 +12,14 @@ use Rattle.bson_value.specs.declared.value.Value.{Value}
 use Rattle.bson_value.specs.Spelling.{tag_of, spelled}
 use Rattle.json_tree.specs.declared.tree.Tree.{Tree}
 use Rattle.json_tree.specs.declared.tree.Tree.TheVariants as trees
+use Rattle.index_keys.specs.Definition.{normal}
 use Rattle.metadata_text.specs.Metadata.{Meta, metadata_of}
 use Rattle.archive_format.specs.Shapes.{is_oplog}
 use Rattle.archive_format.specs.Archive.{Taking, meta, doc, end, fields_of, same_ns}
 use Rattle.document_lines.specs.Lines.{Document}
 use Rattle.state_listing.specs.Listing.{Collection, State}
 use Rattle.restore_base.specs.declared.collections.Stop.{Stop}
-use Rattle.restore_base.specs.declared.collections.Stop.TheVariants.{NoId, Metadata, Indexed}
+use Rattle.restore_base.specs.declared.collections.Stop.TheVariants.{NoId, Metadata}
 
 abbrev pub ns_of : Taking → NsName
 ns_of (meta n t) = n
@@ -62,18 +63,36 @@ options_in (Err at) = no_options
 abbrev pub options_taken : List ℕ → Tree
 options_taken t = options_in (metadata_of t)
 
+abbrev pub with_normal : Option Tree → List Tree → List Tree
+with_normal None ds = ds
+with_normal (Some n) ds = n ∷ ds
+
+-- the normal forms of definitions
+abbrev pub normal_forms : List Tree → List Tree
+normal_forms [] = []
+normal_forms (d ∷ ds) = with_normal (normal d) (normal_forms ds)
+
+-- the definitions that a metadata text has, in normal form, by name
+abbrev pub definitions_in : Meta → List Tree
+definitions_in (Ok x) = normal_forms x.1
+definitions_in (Err at) = []
+
+abbrev pub definitions_taken : List ℕ → List Tree
+definitions_taken t = definitions_in (metadata_of t)
+
 -- what a collection holds
 pub record Contents : Type 0 where
   pub options : Tree
+  pub definitions : List Tree
   pub documents : Documents
 
 abbrev pub no_contents : Contents
-no_contents = record { options = no_options; documents = [] }
+no_contents = record { options = no_options; definitions = []; documents = [] }
 
 -- what a taking makes of its collection
 abbrev pub put_in : Taking → Contents → Contents
-put_in (meta n t) c = record { options = options_taken t; documents = c.documents }
-put_in (doc n b) c = record { options = c.options; documents = put_document (document_taken b) c.documents }
+put_in (meta n t) c = record { options = options_taken t; definitions = definitions_taken t; documents = c.documents }
+put_in (doc n b) c = record { options = c.options; definitions = c.definitions; documents = put_document (document_taken b) c.documents }
 put_in (end n) c = c
 
 -- namespaces go by database, and then by collection
@@ -95,7 +114,7 @@ abbrev pub collections_of : List Taking → Collections
 collections_of ts = fold put_taking [] ts
 
 abbrev pub collection : NsName × Contents → NsName × Collection
-collection c = (c.0, record { options = c.1.options; documents = map (λ e. e.1) c.1.documents })
+collection c = (c.0, record { options = c.1.options; definitions = c.1.definitions; documents = map (λ e. e.1) c.1.documents })
 
 -- the state that these takings make
 abbrev pub base : List Taking → State
@@ -105,15 +124,14 @@ base ts = map collection (collections_of ts)
 abbrev pub restored : List Taking → State
 restored ts = base (filter is_of_collection ts)
 
--- Why a taking is refused: a document has no _id, a text is no metadata, or metadata define an index beside the one on _id.
+-- Why a taking is refused: a document has no _id, or a text is no metadata.
 
 abbrev pub has_id : Document → Bool
 has_id d = is_some (lookup id_name d)
 
 abbrev pub metadata_stop : NsName → Meta → Option Stop
 metadata_stop n (Err at) = Some (Metadata n at)
-metadata_stop n (Ok (options, [])) = None
-metadata_stop n (Ok (options, d ∷ ds)) = Some Indexed
+metadata_stop n (Ok x) = None
 
 abbrev pub stop_at : Taking → Option Stop
 stop_at (meta n t) = if is_oplog n then None else metadata_stop n (metadata_of t)
@@ -124,7 +142,6 @@ stop_at (end n) = None
 abbrev pub same_stop : Option Stop → Option Stop → Bool
 same_stop (Some (NoId n)) (Some (NoId m)) = same_ns n m
 same_stop (Some (Metadata n at)) (Some (Metadata m other)) = same_ns n m && at == other
-same_stop (Some Indexed) (Some Indexed) = true
 same_stop _ _ = false
 
 abbrev pub or_later : Option Stop → Option Stop → Option Stop

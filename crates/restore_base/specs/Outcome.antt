@@ -1,20 +1,28 @@
--- What a restore makes of an input: the state of its takings, or why there is none.
+-- What a restore makes of an input: the state of its takings, or why it isn't listed.
 use Rattle.std.specs.Prelude.{⊤, ◌≡◌, ℕ, List, ◌∷◌, ◌++◌, Option, Some, None}
 use Rattle.archive_format.specs.declared.fault.FormatFault.{FormatFault}
 use Rattle.archive_format.specs.Archive.{Taking, Content, EndsOf, next, short}
 use Rattle.demux.specs.Told.{Reach}
 use Rattle.state_listing.specs.Listing.{State}
+use Rattle.index_build.specs.declared.fault.CountFault.{CountFault}
 use Rattle.restore_base.specs.declared.collections.Stop.{Stop}
 use Rattle.restore_base.specs.Base.{restored, first_stop, stop_at}
+use Rattle.restore_base.specs.Indexes.{index_fault}
 
 pub data Outcome : Type 0 where
   restores : State → Outcome
   refuses : FormatFault → Outcome
   stops : Stop → Outcome
+  fails : CountFault → Outcome
 
--- an archive none of whose takings is refused, a fault of the format behind a clean front of such takings, or the first taking that is refused
+-- the bytes are an archive none of whose takings is refused, and this is the state that it restores to
+abbrev pub RestoresTo : List ℕ → State → Type 0
+RestoresTo bytes s = (ts : List Taking) × Content bytes ts × (first_stop ts ≡ None) × (s ≡ restored ts)
+
+-- such a state, whose indexes can be built or can't; a fault of the format behind a clean front of such takings; or the first taking that is refused
 abbrev pub IsOutcome : List ℕ → Outcome → Type 0
-IsOutcome bytes (restores s) = (ts : List Taking) × Content bytes ts × (first_stop ts ≡ None) × (s ≡ restored ts)
+IsOutcome bytes (restores s) = RestoresTo bytes s × (index_fault s ≡ None)
+IsOutcome bytes (fails f) = (s : State) × RestoresTo bytes s × (index_fault s ≡ Some f)
 IsOutcome bytes (refuses f) = (ts : List Taking) × EndsOf bytes ts (Some f) × (first_stop ts ≡ None)
 IsOutcome bytes (stops s) = (ts : List Taking) × (e : Option FormatFault) × EndsOf bytes ts e × (first_stop ts ≡ Some s)
 
@@ -32,6 +40,7 @@ pub record IsReadTo (bytes : List ℕ) (now : Option (List ℕ)) : Type 0 where
 -- directly behind that front the input is refused
 abbrev pub IsRefusedAt : (bytes : List ℕ) (now : Option (List ℕ)) → IsReadTo bytes now → Outcome → Type 0
 IsRefusedAt bytes now r (restores s) = ⊥
+IsRefusedAt bytes now r (fails f) = ⊥
 IsRefusedAt bytes now r (refuses f) = EndsOf bytes r.given (Some f)
 IsRefusedAt bytes now r (stops s) = (t : Taking) × (more : List Taking) × (e : Option FormatFault) × EndsOf bytes (r.given ++ (t ∷ more)) e × (stop_at t ≡ Some s)
 

@@ -4,13 +4,14 @@ ghost use Rattle.std.specs.Map.{remove_entry};
 ghost use Rattle.std.specs.BTreeMap.{insert_entry, is_at};
 ghost use Rattle.archive_format.specs.Archive.{fault_in};
 ghost use Rattle.bson_view.specs.Views.{document};
-ghost use Rattle.restore_base.specs.Base.{put_document, document_taken, options_taken, no_contents, put_in, ns_cmp, contents_at, put_taking, collections_of};
+ghost use Rattle.restore_base.specs.Base.{put_document, document_taken, options_taken, definitions_taken, normal_forms, no_contents, put_in, ns_cmp, contents_at, put_taking, collections_of};
 ghost use Rattle.restore_base.specs.Kept.{taking_of, takings_in, is_sound, are_sound};
 ghost use Rattle.restore_base.specs.Gathered.{documents_in, contents_in, named, gathered_in, IsInOrder};
 
 use crate::collections::Kept;
 use crate::id::id_key;
 use bson_view::View;
+use index_keys::normal;
 use json_tree::{Fields, Tree};
 use metadata_text::{MetaFault, metadata_of};
 use std::alloc::{AllocError, Global};
@@ -19,10 +20,11 @@ use std::collections::BTreeMap;
 /// The documents of a collection, by type byte and bytes of their `_id`.
 pub type Documents<'a> = BTreeMap<Vec<u8>, View<'a>>;
 
-/// What a collection holds.
+/// What a collection holds. The definitions of its indexes stand in the order of their names.
 #[derive(Drop)]
 pub struct Held<'a> {
     pub options: Tree,
+    pub definitions: Vec<Tree>,
     pub documents: Documents<'a>,
 }
 
@@ -54,14 +56,30 @@ fn put_document<'a>(
     }
 }
 
-// The options that a metadata text has.
-fn options(alloc: Global, text: &str) -> Result<Tree, AllocError>
-    ensures { IfOk result (λ tree. tree ≡ options_taken text.now) }
+// The normal forms of definitions.
+fn normal_forms(alloc: Global, defs: &[Tree]) -> Result<Vec<Tree>, AllocError>
+    ensures { IfOk result (λ v. v.items ≡ normal_forms defs.now) }
+{
+    let mut forms = Vec::new(alloc);
+    let mut left = defs;
+    while let Some((def, rest)) = left.split_first() {
+        if let Some(form) = normal(alloc, def)? {
+            forms.push(form)?;
+        }
+        left = rest;
+    }
+    Ok(forms)
+}
+
+// The options and the definitions that a metadata text has.
+fn described(alloc: Global, text: &str) -> Result<(Tree, Vec<Tree>), AllocError>
+    ensures options { IfOk result (λ x. x.0 ≡ options_taken text.now) }
+    ensures definitions { IfOk result (λ x. x.1.items ≡ definitions_taken text.now) }
 {
     match metadata_of(alloc, text) {
-        Ok((options, _)) => Ok(options),
+        Ok((options, defs)) => Ok((options, normal_forms(alloc, defs.as_slice())?)),
         Err(MetaFault::NoMemory) => Err(AllocError),
-        Err(MetaFault::Bad { .. }) => Ok(Tree::Object(Fields::new(alloc))),
+        Err(MetaFault::Bad { .. }) => Ok((Tree::Object(Fields::new(alloc)), Vec::new(alloc))),
     }
 }
 
@@ -70,6 +88,7 @@ fn nothing<'a>(alloc: Global) -> Held<'a>
 {
     Held {
         options: Tree::Object(Fields::new(alloc)),
+        definitions: Vec::new(alloc),
         documents: BTreeMap::new(alloc),
     }
 }
@@ -82,7 +101,9 @@ fn put_in<'a>(alloc: Global, held: &mut Held<'a>, kept: &'a Kept) -> Result<(), 
     match kept {
         Kept::Doc(_, bytes) => put_document(alloc, &mut held.documents, bytes.as_slice()),
         Kept::Meta(_, text) => {
-            held.options = options(alloc, text.as_str())?;
+            let (options, definitions) = described(alloc, text.as_str())?;
+            held.options = options;
+            held.definitions = definitions;
             Ok(())
         }
         Kept::End(_) => Ok(()),

@@ -21,8 +21,6 @@ pub enum Stop {
     NoId { ns: NsName },
     /// A text is no metadata. The place is that of the fault in the text, or the text's length.
     Metadata { ns: NsName, at: usize },
-    /// The metadata define an index beside the one on `_id`. Such indexes aren't built yet.
-    Indexed,
 }
 
 #[derive(Drop)]
@@ -195,11 +193,7 @@ impl DocTaker for Collections {
         match metadata_of(self.alloc, text) {
             Err(MetaFault::NoMemory) => Err(self.starve()),
             Err(MetaFault::Bad { at }) => Err(self.stop_at_metadata(ns, at)),
-            Ok((_, definitions)) => {
-                if !definitions.is_empty() {
-                    self.stop = Some(Stop::Indexed);
-                    return Err(Halt::Stopped);
-                }
+            Ok(_) => {
                 let kept = self.shared_metadata(ns, text);
                 self.keep(kept)
             }

@@ -3,7 +3,7 @@ ghost use Rattle.std.specs.Prelude.{◌≡◌, ◌≤◌, Some, [], IfOk, IsSome
 ghost use Rattle.tool_io.specs.Causes.{Rose};
 ghost use Rattle.restore_base.specs.Base.{base};
 ghost use Rattle.restore_base.specs.Taken.{takings_of};
-ghost use Rattle.restore_base.specs.Outcome.{IsOutcome, IsReadTo, IsRefused, IsUnsettled, OnInput, OneOutcome, RefusedIsOutcome, restores, refuses, stops};
+ghost use Rattle.restore_base.specs.Outcome.{RestoresTo, IsReadTo, IsRefused, IsUnsettled, OnInput, OneOutcome, RefusedIsOutcome, refuses, stops};
 
 use crate::collections::{Collections, Stop};
 use archive_format::FormatFault;
@@ -43,7 +43,7 @@ fn fault_of(fault: DemuxFault, collections: Collections) -> RestoreFault
 
 /// The collections of the archive that the source has left. What is kept of it takes memory, and a window of 16,793,600 bytes.
 pub fn restore<S: Source>(alloc: Global, source: &mut S) -> Result<Collections, RestoreFault>
-    ensures restored { IfOk result (λ c. OnInput (S.end source.old).bytes (λ all. ((S.end source.new).bytes ≡ Some []) × IsOutcome all (restores (base (takings_of c))))) }
+    ensures restored { IfOk result (λ c. OnInput (S.end source.old).bytes (λ all. ((S.end source.new).bytes ≡ Some []) × RestoresTo all (base (takings_of c)))) }
     ensures format { (f : FormatFault) → IsErrOf result (RestoreFault.Format f) → OnInput (S.end source.old).bytes (λ all. IsRefused all (S.end source.new).bytes (refuses f)) }
     ensures stopped { (s : Stop) → IsErrOf result (RestoreFault.Stopped s) → OnInput (S.end source.old).bytes (λ all. IsRefused all (S.end source.new).bytes (stops s)) }
     ensures read_fault { IsErrOf result RestoreFault.ReadFault → Rose (S.end source.old).faults (S.end source.new).faults }

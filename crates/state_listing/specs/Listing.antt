@@ -1,17 +1,19 @@
--- The listing of a state: for each collection a line with its name and the number of its documents, a line with its options, and a line for each document.
-use Rattle.std.specs.Prelude.{ℕ, List, ◌∷◌, ◌++◌, length, codes}
+-- The listing of a state: for each collection a line with its name and the number of its documents, a line with its options, a line for each index, and a line for each document.
+use Rattle.std.specs.Prelude.{ℕ, List, ◌∷◌, ◌++◌, length, codes, Option, Some, None}
 use Rattle.std.specs.List.{flat_map}
 use Rattle.std.specs.Fmt.{decimal}
 use Rattle.bson_value.specs.Namespace.{dot}
 use Rattle.bson_value.specs.declared.namespace.NsName.{NsName}
 use Rattle.json_tree.specs.declared.tree.Tree.{Tree}
 use Rattle.json_text.specs.Print.{quoted, text_of}
+use Rattle.index_build.specs.Numbers.{number}
 use Rattle.document_lines.specs.declared.form.ListForm.{ListForm}
 use Rattle.document_lines.specs.Lines.{Document, line, document_line}
 
--- a collection: its options, and its documents by type byte and bytes of their _id
+-- a collection: its options, the definitions of its indexes by name, and its documents by type byte and bytes of their _id
 pub record Collection : Type 0 where
   pub options : Tree
+  pub definitions : List Tree
   pub documents : List Document
 
 -- collections by database and then by name
@@ -27,8 +29,21 @@ abbrev pub head_text : List ℕ → List ℕ → ℕ → Tree → List ℕ
 head_text db coll count options =
     line (codes "collection " ++ name_text db coll ++ codes " " ++ decimal count) ++ line (codes "options " ++ text_of options)
 
+-- how many keys an index has, if it is built
+abbrev pub count_text : Option ℕ → List ℕ
+count_text None = codes "unbuilt"
+count_text (Some n) = decimal n
+
+-- the number of its keys, and the definition
+abbrev pub index_line : Option ℕ → Tree → List ℕ
+index_line count def = line (codes "index " ++ count_text count ++ codes " " ++ text_of def)
+
+abbrev pub indexes_text : List Document → List Tree → List ℕ
+indexes_text ds defs = flat_map (λ def. index_line (number def ds) def) defs
+
 abbrev pub collection_text : ListForm → NsName × Collection → List ℕ
-collection_text form c = head_text c.0.db c.0.coll (length c.1.documents) c.1.options ++ flat_map (document_line form) c.1.documents
+collection_text form c =
+    head_text c.0.db c.0.coll (length c.1.documents) c.1.options ++ indexes_text c.1.documents c.1.definitions ++ flat_map (document_line form) c.1.documents
 
 abbrev pub listing : ListForm → State → List ℕ
 listing form state = flat_map (collection_text form) state

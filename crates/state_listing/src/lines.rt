@@ -3,7 +3,7 @@ ghost use Rattle.std.specs.Prelude.{◌≡◌, ◌≤◌, ◌++◌, ◌∷◌, O
 ghost use Rattle.std.specs.Io.KnownBytes.{Appends};
 ghost use Rattle.bson_value.specs.Namespace.{dot};
 ghost use Rattle.tool_io.specs.Causes.{Rose, AppendsFront};
-ghost use Rattle.state_listing.specs.Listing.{name_text, head_text};
+ghost use Rattle.state_listing.specs.Listing.{name_text, head_text, index_line};
 
 use containers::Text as JText;
 use json_text::print;
@@ -52,6 +52,35 @@ pub fn write_head<K: Sink>(
     ensures cause { IsErrOf result Fault.Failed → Rose (K.end sink.old).faults (K.end sink.new).faults }
 {
     match head(alloc, db, coll, count, options) {
+        Ok(text) => sink.write(text.as_bytes()),
+        Err(_) => Err(Fault::NoMemory),
+    }
+}
+
+fn index(alloc: Global, count: Option<u64>, def: &Tree) -> Result<String, AllocError>
+    ensures { IfOk result (λ s. string_bytes s ≡ index_line count def.now) }
+{
+    let def = print(alloc, def)?;
+    let def = def.as_str();
+    match count {
+        Some(count) => format!(in alloc; "index {count} {def}\n"),
+        None => format!(in alloc; "index unbuilt {def}\n"),
+    }
+}
+
+/// Writes the line of an index: the number of its keys, or that it isn't built, and its definition. It is one write.
+pub fn write_index<K: Sink>(
+    alloc: Global,
+    count: Option<u64>,
+    def: &Tree,
+    sink: &mut K,
+) -> Result<(), Fault>
+    ensures ok { OnOk result (Appends (K.end sink.old).bytes (K.end sink.new).bytes (index_line count def.now)) }
+    ensures err { OnErr result (AppendsFront (K.end sink.old).bytes (K.end sink.new).bytes (index_line count def.now)) }
+    ensures later { (K.end sink.old).faults ≤ (K.end sink.new).faults }
+    ensures cause { IsErrOf result Fault.Failed → Rose (K.end sink.old).faults (K.end sink.new).faults }
+{
+    match index(alloc, count, def) {
         Ok(text) => sink.write(text.as_bytes()),
         Err(_) => Err(Fault::NoMemory),
     }

@@ -2,8 +2,8 @@
 use Rattle.std.proofs.Common.{ℕ, ◌≡◌, List, inl, inr, refl, sym, ◌∙◌, ap, subst}
 use Rattle.std.specs.Prelude.{Option, None, Some, Ok, Err}
 use Rattle.demux.proofs.Begin.{keeps_same}
-use Rattle.restore_base.specs.declared.collections.Stop.TheVariants as reasons
-use Rattle.restore_base.specs.Outcome.{Outcome, restores, stops, IsOutcome, OnInput}
+use Rattle.index_build.specs.declared.fault.CountFault.TheVariants as counts
+use Rattle.restore_base.specs.Outcome.{Outcome, restores, fails, IsOutcome, OnInput}
 use Rattle.restore_base.proofs.Outcomes.{outcome_once}
 use Rattle.tools_cli.specs.declared.order.Order.TheVariants as orders
 use Rattle.tools_cli.specs.declared.order.RestoreOrder.{RestoreOrder}
@@ -43,7 +43,8 @@ restore_due order (is.BadArchive f) i o h all p e k = inl (sym (fault_code f) �
 restore_due order is.ReadFault i o h all p e k = inr tt
 restore_due order is.WriteFault i o h all p e k = inr tt
 restore_due order is.NoMemory i o h all p e k = inr tt
-restore_due order is.Unbuilt i o h all p e k = inl (same_code i.before.bytes (stops reasons.Indexed) p all (refused i (stops reasons.Indexed) h.0) e k)
+restore_due order (is.DuplicateKey ns j a b) i o h all p e k = inl (same_code i.before.bytes (fails (counts.Duplicate ns j a b)) p all h.1 e k)
+restore_due order (is.ParallelArrays ns j a) i o h all p e k = inl (same_code i.before.bytes (fails (counts.Parallel ns j a)) p all h.1 e k)
 
 pub restore_says : (order : RestoreOrder) (s : Status) (i o r : Turn) → RestoreSays order s i o → Untouched r → RestoreAnswers order s i o r
 restore_says order s i o r h e = record { says = h; silent = e; due = restore_due order s i o h }

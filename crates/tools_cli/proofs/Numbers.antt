@@ -12,7 +12,8 @@ numbered is.Done = record {
   read_fault = λ e. absurd cc;
   write_fault = λ e. absurd cc;
   no_memory = λ e. absurd cc;
-  unbuilt = λ e. absurd cc;
+  duplicate_key = λ e. absurd cc;
+  parallel_arrays = λ e. absurd cc;
 }
 numbered (is.Usage at) = record {
   done = λ e. absurd cc;
@@ -21,7 +22,8 @@ numbered (is.Usage at) = record {
   read_fault = λ e. absurd cc;
   write_fault = λ e. absurd cc;
   no_memory = λ e. absurd cc;
-  unbuilt = λ e. absurd cc;
+  duplicate_key = λ e. absurd cc;
+  parallel_arrays = λ e. absurd cc;
 }
 numbered (is.BadArchive f) = record {
   done = λ e. absurd cc;
@@ -30,7 +32,8 @@ numbered (is.BadArchive f) = record {
   read_fault = λ e. absurd cc;
   write_fault = λ e. absurd cc;
   no_memory = λ e. absurd cc;
-  unbuilt = λ e. absurd cc;
+  duplicate_key = λ e. absurd cc;
+  parallel_arrays = λ e. absurd cc;
 }
 numbered is.ReadFault = record {
   done = λ e. absurd cc;
@@ -39,7 +42,8 @@ numbered is.ReadFault = record {
   read_fault = λ _. refl;
   write_fault = λ e. absurd cc;
   no_memory = λ e. absurd cc;
-  unbuilt = λ e. absurd cc;
+  duplicate_key = λ e. absurd cc;
+  parallel_arrays = λ e. absurd cc;
 }
 numbered is.WriteFault = record {
   done = λ e. absurd cc;
@@ -48,7 +52,8 @@ numbered is.WriteFault = record {
   read_fault = λ e. absurd cc;
   write_fault = λ _. refl;
   no_memory = λ e. absurd cc;
-  unbuilt = λ e. absurd cc;
+  duplicate_key = λ e. absurd cc;
+  parallel_arrays = λ e. absurd cc;
 }
 numbered is.NoMemory = record {
   done = λ e. absurd cc;
@@ -57,14 +62,26 @@ numbered is.NoMemory = record {
   read_fault = λ e. absurd cc;
   write_fault = λ e. absurd cc;
   no_memory = λ _. refl;
-  unbuilt = λ e. absurd cc;
+  duplicate_key = λ e. absurd cc;
+  parallel_arrays = λ e. absurd cc;
 }
-numbered is.Unbuilt = record {
+numbered (is.DuplicateKey ns i a b) = record {
   done = λ e. absurd cc;
   usage = λ e. absurd cc;
   bad_archive = λ e. absurd cc;
   read_fault = λ e. absurd cc;
   write_fault = λ e. absurd cc;
   no_memory = λ e. absurd cc;
-  unbuilt = λ _. refl;
+  duplicate_key = λ _. (ns, i, a, b, refl);
+  parallel_arrays = λ e. absurd cc;
+}
+numbered (is.ParallelArrays ns i a) = record {
+  done = λ e. absurd cc;
+  usage = λ e. absurd cc;
+  bad_archive = λ e. absurd cc;
+  read_fault = λ e. absurd cc;
+  write_fault = λ e. absurd cc;
+  no_memory = λ e. absurd cc;
+  duplicate_key = λ e. absurd cc;
+  parallel_arrays = λ _. (ns, i, a, refl);
 }

@@ -2,13 +2,15 @@
 use Rattle.std.proofs.Common.{◌≡◌, ◌⊎◌, ℕ, List, inl, inr}
 use Rattle.std.specs.Prelude.{Option, Some, None, []}
 use Rattle.state_listing.specs.Listing.{State}
-use Rattle.restore_base.specs.Outcome.{Outcome, IsOutcome, IsReadTo, IsRefused, OnInput, restores}
+use Rattle.index_build.specs.declared.fault.CountFault.{CountFault}
+use Rattle.restore_base.specs.Indexes.{index_fault}
+use Rattle.restore_base.specs.Outcome.{Outcome, RestoresTo, IsOutcome, IsReadTo, IsRefused, OnInput, restores, fails}
 use Rattle.restore_base.proofs.Outcomes.{unread, refused_once}
 use Rattle.tool_io.specs.Ends.{End}
 use Rattle.tools_cli.specs.Ends.{Turn}
 use Rattle.tools_cli.specs.RestoreAnswers.{ReadsSome, Refused, HasOutcome}
 
-pub all_read : (o now : Option (List ℕ)) (s : State) → OnInput o (λ all. (now ≡ Some []) × IsOutcome all (restores s)) → OnInput o (λ all. (now ≡ Some []) ⊎ IsReadTo all now)
+pub all_read : (o now : Option (List ℕ)) (s : State) → OnInput o (λ all. (now ≡ Some []) × RestoresTo all s) → OnInput o (λ all. (now ≡ Some []) ⊎ IsReadTo all now)
 all_read None now s h = tt
 all_read (Some all) now s h = inl h.0
 
@@ -19,9 +21,17 @@ some_read (Some all) now h = inr h
 pub none_read : (e : End) → ReadsSome (record { before = e; after = e })
 none_read e = some_read e.bytes e.bytes (unread e.bytes)
 
-pub outcome : (o now : Option (List ℕ)) (s : State) → OnInput o (λ all. (now ≡ Some []) × IsOutcome all (restores s)) → OnInput o (λ all. IsOutcome all (restores s))
-outcome None now s h = tt
-outcome (Some all) now s h = h.1
+pub whole_read : (o now : Option (List ℕ)) (s : State) → OnInput o (λ all. (now ≡ Some []) × RestoresTo all s) → OnInput o (λ all. now ≡ Some [])
+whole_read None now s h = tt
+whole_read (Some all) now s h = h.0
+
+pub outcome : (o now : Option (List ℕ)) (s : State) → OnInput o (λ all. (now ≡ Some []) × RestoresTo all s) → index_fault s ≡ None → OnInput o (λ all. IsOutcome all (restores s))
+outcome None now s h n = tt
+outcome (Some all) now s h n = (h.1, n)
+
+pub failure : (o now : Option (List ℕ)) (s : State) (f : CountFault) → OnInput o (λ all. (now ≡ Some []) × RestoresTo all s) → index_fault s ≡ Some f → OnInput o (λ all. IsOutcome all (fails f))
+failure None now s f h n = tt
+failure (Some all) now s f h n = (s, h.1, n)
 
 -- an input that is refused has that outcome
 pub refused : (i : Turn) (o : Outcome) → Refused i o → HasOutcome i o

@@ -31,7 +31,8 @@ Reports (is.BadArchive f) report = Tells report (line_of (is.BadArchive f))
 Reports is.ReadFault report = Tells report (line_of is.ReadFault)
 Reports is.WriteFault report = Tells report (line_of is.WriteFault)
 Reports is.NoMemory report = Tells report (line_of is.NoMemory)
-Reports is.Unbuilt report = Tells report (line_of is.Unbuilt)
+Reports (is.DuplicateKey ns i a b) report = Tells report (line_of (is.DuplicateKey ns i a b))
+Reports (is.ParallelArrays ns i a) report = Tells report (line_of (is.ParallelArrays ns i a))
 
 -- there was no memory for the line of this status
 abbrev pub RunsOut : Status → Turn → Type 0

@@ -4,6 +4,9 @@ use Rattle.std.specs.Fmt.{decimal}
 use Rattle.std.specs.Int.{w64, to_be_bytes}
 use Rattle.hex.specs.Hex.{encode_lower}
 use Rattle.bson_value.specs.declared.namespace.NsName.{NsName}
+use Rattle.bson_value.specs.declared.value.Value.{Value}
+use Rattle.extjson.specs.Trees.{tree_of}
+use Rattle.json_text.specs.Print.{quoted, text_of}
 use Rattle.bson_check.specs.declared.fault.BsonKind.{BsonKind}
 use Rattle.bson_check.specs.declared.fault.BsonKind.TheVariants as kinds
 use Rattle.archive_format.specs.declared.fault.FormatFault.{FormatFault}
@@ -66,6 +69,20 @@ refusal_line f = line (codes "bad archive: " ++ refusal_text f)
 abbrev pub no_memory_line : List ℕ
 no_memory_line = codes "no memory\n"
 
+-- an _id, as canonical Extended JSON in its own order
+abbrev pub id_text : Value → List ℕ
+id_text v = text_of (tree_of v)
+
+-- a collection and an index of it
+abbrev pub index_text : NsName → List ℕ → List ℕ
+index_text ns i = quoted_name ns ++ codes " " ++ quoted i
+
+abbrev pub duplicate_line : NsName → List ℕ → Value → Value → List ℕ
+duplicate_line ns i a b = line (codes "duplicate key: " ++ index_text ns i ++ codes " " ++ id_text a ++ codes " " ++ id_text b)
+
+abbrev pub parallel_line : NsName → List ℕ → Value → List ℕ
+parallel_line ns i a = line (codes "parallel arrays: " ++ index_text ns i ++ codes " " ++ id_text a)
+
 abbrev pub line_of : Status → List ℕ
 line_of is.Done = []
 line_of (is.Usage at) = usage_line at
@@ -73,4 +90,5 @@ line_of (is.BadArchive f) = refusal_line f
 line_of is.ReadFault = codes "read fault\n"
 line_of is.WriteFault = codes "write fault\n"
 line_of is.NoMemory = no_memory_line
-line_of is.Unbuilt = codes "unbuilt\n"
+line_of (is.DuplicateKey ns i a b) = duplicate_line ns i a b
+line_of (is.ParallelArrays ns i a) = parallel_line ns i a

@@ -3,7 +3,9 @@ use Rattle.std.specs.Prelude.{◌≡◌, ◌⊎◌, ℕ, List, [], Some}
 use Rattle.state_listing.specs.Listing.{State, listing}
 use Rattle.restore_base.specs.declared.collections.Stop.{Stop}
 use Rattle.restore_base.specs.declared.collections.Stop.TheVariants as reasons
-use Rattle.restore_base.specs.Outcome.{Outcome, restores, refuses, stops, IsOutcome, IsReadTo, IsRefused, IsUnsettled, OnInput}
+use Rattle.index_build.specs.declared.fault.CountFault.{CountFault}
+use Rattle.index_build.specs.declared.fault.CountFault.TheVariants as counts
+use Rattle.restore_base.specs.Outcome.{Outcome, restores, refuses, stops, fails, IsOutcome, IsReadTo, IsRefused, IsUnsettled, OnInput}
 use Rattle.tools_cli.specs.declared.order.RestoreOrder.{RestoreOrder}
 use Rattle.tools_cli.specs.declared.status.ArchiveFault.{ArchiveFault}
 use Rattle.tools_cli.specs.declared.status.ArchiveFault.TheVariants as refusals
@@ -54,18 +56,31 @@ RestoreSays order (is.BadArchive f) input output = Refused input (outcome_of f) 
 RestoreSays order is.ReadFault input output = Failed input × Unsettled input × Same output
 RestoreSays order is.WriteFault input output = Failed output × ReadsAll input × ListsFront order input output
 RestoreSays order is.NoMemory input output = ReadsSome input × (Same output ⊎ ListsFront order input output)
-RestoreSays order is.Unbuilt input output = Refused input (stops reasons.Indexed) × Same output
+RestoreSays order (is.DuplicateKey ns i a b) input output = ReadsAll input × HasOutcome input (fails (counts.Duplicate ns i a b)) × Same output
+RestoreSays order (is.ParallelArrays ns i a) input output = ReadsAll input × HasOutcome input (fails (counts.Parallel ns i a)) × Same output
+
+-- what a fault of the indexes is told as
+abbrev pub IsIndexStatus : Status → CountFault → Type 0
+IsIndexStatus status (counts.Parallel ns i a) = status ≡ is.ParallelArrays ns i a
+IsIndexStatus status (counts.Duplicate ns i a b) = status ≡ is.DuplicateKey ns i a b
+IsIndexStatus status counts.NoMemory = status ≡ is.NoMemory
 
 -- the number of the status that is due for an outcome
 abbrev pub stop_code : Stop → ℕ
 stop_code (reasons.NoId ns) = 3
 stop_code (reasons.Metadata ns at) = 3
-stop_code reasons.Indexed = 12
+
+-- want of memory is no fault of an input
+abbrev pub fault_code : CountFault → ℕ
+fault_code (counts.Parallel ns i a) = 7
+fault_code (counts.Duplicate ns i a b) = 6
+fault_code counts.NoMemory = 11
 
 abbrev pub outcome_code : Outcome → ℕ
 outcome_code (restores s) = 0
 outcome_code (refuses f) = 3
 outcome_code (stops s) = stop_code s
+outcome_code (fails f) = fault_code f
 
 pub record RestoreAnswers (order : RestoreOrder) (status : Status) (input output report : Turn) : Type 0 where
   pub says : RestoreSays order status input output

@@ -1,5 +1,7 @@
 -- The numbers of the statuses, and which status is due.
-use Rattle.std.specs.Prelude.{⊤, ◌≡◌, ◌⊎◌, ℕ}
+use Rattle.std.specs.Prelude.{⊤, ◌≡◌, ◌⊎◌, ℕ, List}
+use Rattle.bson_value.specs.declared.namespace.NsName.{NsName}
+use Rattle.bson_value.specs.declared.value.Value.{Value}
 use Rattle.tools_cli.specs.declared.status.ArchiveFault.{ArchiveFault}
 use Rattle.tools_cli.specs.declared.status.Status.{Status}
 use Rattle.tools_cli.specs.declared.status.Status.TheVariants as is
@@ -11,7 +13,8 @@ code_of (is.BadArchive f) = 3
 code_of is.ReadFault = 9
 code_of is.WriteFault = 10
 code_of is.NoMemory = 11
-code_of is.Unbuilt = 12
+code_of (is.DuplicateKey ns i a b) = 6
+code_of (is.ParallelArrays ns i a) = 7
 
 -- what the number of a status tells of it
 pub record Numbered (s : Status) : Type 0 where
@@ -21,7 +24,8 @@ pub record Numbered (s : Status) : Type 0 where
   pub read_fault : code_of s ≡ 9 → s ≡ is.ReadFault
   pub write_fault : code_of s ≡ 10 → s ≡ is.WriteFault
   pub no_memory : code_of s ≡ 11 → s ≡ is.NoMemory
-  pub unbuilt : code_of s ≡ 12 → s ≡ is.Unbuilt
+  pub duplicate_key : code_of s ≡ 6 → (ns : NsName) × (i : List ℕ) × (a : Value) × (b : Value) × (s ≡ is.DuplicateKey ns i a b)
+  pub parallel_arrays : code_of s ≡ 7 → (ns : NsName) × (i : List ℕ) × (a : Value) × (s ≡ is.ParallelArrays ns i a)
 
 -- the law that numbers tell statuses apart
 abbrev pub NumbersTellApart : Type 0

@@ -2,12 +2,16 @@
 ghost use Rattle.std.specs.Prelude.{◌≡◌, ◌⊎◌, IfOk, string_bytes};
 ghost use Rattle.tools_cli.specs.Ends.{turn, Tells};
 ghost use Rattle.tools_cli.specs.Answers.{Told, RunsOut};
-ghost use Rattle.tools_cli.specs.Lines.{kind_text, quoted_name, sum_text, format_text, refusal_text, usage_line, refusal_line, line_of};
+ghost use Rattle.tools_cli.specs.Lines.{kind_text, quoted_name, sum_text, format_text, refusal_text, usage_line, refusal_line, id_text, index_text, duplicate_line, parallel_line, line_of};
 
 use crate::status::{ArchiveFault, Status};
 use archive_format::FormatFault;
 use bson_check::BsonKind;
-use bson_value::NsName;
+use bson_value::{NsName, Value};
+use containers::Text;
+use extjson::tree_of;
+use json_text::print;
+use json_tree::Tree;
 use std::alloc::{AllocError, Global};
 use tool_io::{Fault, Sink};
 
@@ -161,6 +165,87 @@ fn tell_refusal<R: Sink>(alloc: Global, fault: ArchiveFault, report: &mut R) -> 
     tell_text(report, text, Status::BadArchive(fault))
 }
 
+// An `_id`, as canonical Extended JSON.
+fn id_text(alloc: Global, id: &Value) -> Result<String, AllocError>
+    ensures { IfOk result (λ s. string_bytes s ≡ id_text id.now) }
+{
+    let text = print(alloc, &tree_of(alloc, id)?)?;
+    Ok(text.into_string())
+}
+
+// A collection and an index of it.
+fn index_text(alloc: Global, ns: &NsName, index: &Text) -> Result<String, AllocError>
+    ensures { IfOk result (λ s. string_bytes s ≡ index_text ns.now index.now) }
+{
+    let name = quoted(alloc, ns)?;
+    let index = print(alloc, &Tree::Str(index.copy(alloc)?))?;
+    let index = index.as_str();
+    format!(in alloc; "{name} {index}")
+}
+
+fn duplicate_line(
+    alloc: Global,
+    ns: &NsName,
+    index: &Text,
+    first: &Value,
+    second: &Value,
+) -> Result<String, AllocError>
+    ensures { IfOk result (λ s. string_bytes s ≡ duplicate_line ns.now index.now first.now second.now) }
+{
+    let place = index_text(alloc, ns, index)?;
+    let first = id_text(alloc, first)?;
+    let second = id_text(alloc, second)?;
+    format!(in alloc; "duplicate key: {place} {first} {second}\n")
+}
+
+fn parallel_line(
+    alloc: Global,
+    ns: &NsName,
+    index: &Text,
+    id: &Value,
+) -> Result<String, AllocError>
+    ensures { IfOk result (λ s. string_bytes s ≡ parallel_line ns.now index.now id.now) }
+{
+    let place = index_text(alloc, ns, index)?;
+    let id = id_text(alloc, id)?;
+    format!(in alloc; "parallel arrays: {place} {id}\n")
+}
+
+fn tell_duplicate<R: Sink>(
+    alloc: Global,
+    ns: NsName,
+    index: Text,
+    first: Value,
+    second: Value,
+    report: &mut R,
+) -> Status
+    ensures { ((result ≡ Status.DuplicateKey ns index first second) × Tells (turn (R.end report.old) (R.end report.new)) (line_of (Status.DuplicateKey ns index first second)))
+        ⊎ ((result ≡ Status.NoMemory) × RunsOut (Status.DuplicateKey ns index first second) (turn (R.end report.old) (R.end report.new))) }
+{
+    let text = duplicate_line(alloc, &ns, &index, &first, &second);
+    let status = Status::DuplicateKey {
+        ns,
+        index,
+        first,
+        second,
+    };
+    tell_text(report, text, status)
+}
+
+fn tell_parallel<R: Sink>(
+    alloc: Global,
+    ns: NsName,
+    index: Text,
+    id: Value,
+    report: &mut R,
+) -> Status
+    ensures { ((result ≡ Status.ParallelArrays ns index id) × Tells (turn (R.end report.old) (R.end report.new)) (line_of (Status.ParallelArrays ns index id)))
+        ⊎ ((result ≡ Status.NoMemory) × RunsOut (Status.ParallelArrays ns index id) (turn (R.end report.old) (R.end report.new))) }
+{
+    let text = parallel_line(alloc, &ns, &index, &id);
+    tell_text(report, text, Status::ParallelArrays { ns, index, id })
+}
+
 /// Tells the status on the report. A failing write changes nothing of it, and want of memory is the status then.
 pub fn tell<R: Sink>(alloc: Global, status: Status, report: &mut R) -> Status
     ensures { Told status result (turn (R.end report.old) (R.end report.new)) }
@@ -174,6 +259,12 @@ pub fn tell<R: Sink>(alloc: Global, status: Status, report: &mut R) -> Status
         Status::ReadFault => tell_line(report, b"read fault\n", Status::ReadFault),
         Status::WriteFault => tell_line(report, b"write fault\n", Status::WriteFault),
         Status::NoMemory => tell_line(report, b"no memory\n", Status::NoMemory),
-        Status::Unbuilt => tell_line(report, b"unbuilt\n", Status::Unbuilt),
+        Status::DuplicateKey {
+            ns,
+            index,
+            first,
+            second,
+        } => tell_duplicate(alloc, ns, index, first, second, report),
+        Status::ParallelArrays { ns, index, id } => tell_parallel(alloc, ns, index, id, report),
     }
 }

@@ -2,7 +2,8 @@ ghost use Rattle.std.specs.Prelude.{◌≡◌};
 ghost use Rattle.tools_cli.specs.Statuses.{code_of, NumbersTellApart};
 
 use archive_format::FormatFault;
-use bson_value::NsName;
+use bson_value::{NsName, Value};
+use containers::Text;
 
 /// Why an input isn't restored.
 #[derive(Debug, Drop)]
@@ -16,7 +17,7 @@ pub enum ArchiveFault {
 }
 
 /// How a call ended.
-#[derive(Debug, Drop)]
+#[derive(Drop)]
 pub enum Status {
     Done,
     /// The words aren't a command; the place is that of the first word that can't stand where it stands.
@@ -25,8 +26,15 @@ pub enum Status {
     ReadFault,
     WriteFault,
     NoMemory,
-    /// The metadata define an index beside the one on `_id`, and such indexes aren't built yet.
-    Unbuilt,
+    /// Two documents have one key in a unique index. They are told by their `_id`s.
+    DuplicateKey {
+        ns: NsName,
+        index: Text,
+        first: Value,
+        second: Value,
+    },
+    /// Two fields of an index meet an array in one document, which is told by its `_id`.
+    ParallelArrays { ns: NsName, index: Text, id: Value },
 }
 
 impl Status {
@@ -41,7 +49,8 @@ impl Status {
             Status::ReadFault => 9,
             Status::WriteFault => 10,
             Status::NoMemory => 11,
-            Status::Unbuilt => 12,
+            Status::DuplicateKey { .. } => 6,
+            Status::ParallelArrays { .. } => 7,
         }
     }
 }

@@ -76,6 +76,29 @@ fn digits_of(word: &str) -> &str {
         "index" => {
             "7d0000000264620002000000650002636f6c6c656374696f6e00020000006600026d65746164617461002f0000007b22696e6465786573223a5b7b2276223a322c226b6579223a7b2278223a317d2c226e616d65223a2269227d5d7d001073697a6500000000000274797065000b000000636f6c6c656374696f6e0000"
         }
+        "end-unsummed" => {
+            "270000000264620002000000610002636f6c6c656374696f6e0002000000620008454f46000100"
+        }
+        "text-index" => {
+            "810000000264620002000000610002636f6c6c656374696f6e00020000006200026d6574616461746100330000007b22696e6465786573223a5b7b226b6579223a7b2274223a2274657874227d2c226e616d65223a22745f74657874227d5d7d001073697a6500000000000274797065000b000000636f6c6c656374696f6e0000"
+        }
+        "two-fields" => {
+            "830000000264620002000000610002636f6c6c656374696f6e00020000006200026d6574616461746100350000007b22696e6465786573223a5b7b2276223a322c226b6579223a7b2278223a312c2279223a317d2c226e616d65223a2269227d5d7d001073697a6500000000000274797065000b000000636f6c6c656374696f6e0000"
+        }
+        "unique-index" => {
+            "920000000264620002000000610002636f6c6c656374696f6e00020000006200026d6574616461746100440000007b22696e6465786573223a5b7b226b6579223a7b226b223a317d2c22756e69717565223a747275652c226e616d65223a226b5f31222c226e73223a22612e62227d5d7d001073697a6500000000000274797065000b000000636f6c6c656374696f6e0000"
+        }
+        "two-indexes" => {
+            "ad0000000264620002000000610002636f6c6c656374696f6e00020000006200026d65746164617461005f0000007b22696e6465786573223a5b7b2276223a322c226b6579223a7b226b223a317d2c226e616d65223a227a227d2c7b2276223a322c226b6579223a7b2273223a2d317d2c226e616d65223a2261222c22737061727365223a747275657d5d7d001073697a6500000000000274797065000b000000636f6c6c656374696f6e0000"
+        }
+        "two-arrays" => {
+            "2c000000105f696400010000000478000c00000010300001000000000479000c000000103000020000000000"
+        }
+        "one-a" => { "17000000105f69640001000000026b0002000000610000" }
+        "two-a" => { "17000000105f69640002000000026b0002000000610000" }
+        "three-b" => {
+            "38000000105f69640003000000046b0020000000023000020000006100023100020000006200023200020000006100001073000100000000"
+        }
         "id-index" => {
             "da0000000264620002000000650002636f6c6c656374696f6e00020000006600026d65746164617461008c0000007b226f7074696f6e73223a7b7d2c22696e6465786573223a5b7b2276223a7b22246e756d626572496e74223a2232227d2c226b6579223a7b225f6964223a7b22246e756d626572496e74223a2231227d7d2c226e616d65223a225f69645f227d5d2c22636f6c6c656374696f6e4e616d65223a2266222c2274797065223a22636f6c6c656374696f6e227d001073697a6500000000000274797065000b000000636f6c6c656374696f6e0000"
         }
@@ -110,7 +133,7 @@ pub const HEX: [&str; 3] = ["restore", "--archive", "--form=hex"];
 
 const JSON: [&str; 2] = ["restore", "--archive"];
 
-const ROWS: [Row; 25] = [
+const ROWS: [Row; 29] = [
     Row {
         shows: "a prelude alone",
         words: &HEX,
@@ -200,12 +223,44 @@ const ROWS: [Row; 25] = [
         report: "",
     },
     Row {
-        shows: "another index",
+        shows: "an index without documents",
         words: &JSON,
         input: "magic header index stop",
-        status: 12,
+        status: 0,
+        output: "collection \"e.f\" 0\noptions {}\nindex 0 {\"v\":{\"$numberInt\":\"2\"},\"key\":{\"x\":{\"$numberInt\":\"1\"}},\"name\":\"i\"}\n",
+        report: "",
+    },
+    Row {
+        shows: "an index that isn't built",
+        words: &JSON,
+        input: "magic header text-index stop",
+        status: 0,
+        output: "collection \"a.b\" 0\noptions {}\nindex unbuilt {\"v\":{\"$numberInt\":\"2\"},\"key\":{\"t\":\"text\"},\"name\":\"t_text\"}\n",
+        report: "",
+    },
+    Row {
+        shows: "indexes by name, each with the number of its keys",
+        words: &HEX,
+        input: "magic header two-indexes stop a.b one-a two-a three-b stop end-unsummed stop",
+        status: 0,
+        output: "collection \"a.b\" 3\noptions {}\nindex 1 {\"v\":{\"$numberInt\":\"2\"},\"key\":{\"s\":{\"$numberInt\":\"-1\"}},\"name\":\"a\",\"sparse\":true}\nindex 4 {\"v\":{\"$numberInt\":\"2\"},\"key\":{\"k\":{\"$numberInt\":\"1\"}},\"name\":\"z\"}\ndoc 17000000105f69640001000000026b0002000000610000\ndoc 17000000105f69640002000000026b0002000000610000\ndoc 38000000105f69640003000000046b0020000000023000020000006100023100020000006200023200020000006100001073000100000000\n",
+        report: "",
+    },
+    Row {
+        shows: "two documents with one key in a unique index",
+        words: &JSON,
+        input: "magic header unique-index stop a.b two-a one-a stop end-unsummed stop",
+        status: 6,
         output: "",
-        report: "unbuilt\n",
+        report: "duplicate key: \"a.b\" \"k_1\" {\"$numberInt\":\"1\"} {\"$numberInt\":\"2\"}\n",
+    },
+    Row {
+        shows: "two fields of an index that meet arrays",
+        words: &JSON,
+        input: "magic header two-fields stop a.b two-arrays stop end-unsummed stop",
+        status: 7,
+        output: "",
+        report: "parallel arrays: \"a.b\" \"i\" {\"$numberInt\":\"1\"}\n",
     },
     Row {
         shows: "a text that is no metadata",

@@ -13,22 +13,22 @@ use Rattle.restore_base.proofs.listing.list_collection.Goals as goal
 pub returns-in-Ok-clause-ok : goal.returns-in-Ok-clause-ok
 returns-in-Ok-clause-ok g c =
     let before = (g.K.Sink.end c.args.sink.now).bytes in
-    let after = (g.K.Sink.end c.list_documents.new.sink).bytes in
+    let after = (g.K.Sink.end c.list_contents.new.sink).bytes in
     let held = contents_in c.args.held.now in
     let count : c.len.result ≡ length held.documents = c.len.ensures.len ∙ sym (length-map c.args.held.now.documents.entries document_entry) in
-    let is = collection_text_is c.args.form (named c.args.name.now) held c.len.result count in
-    subst (λ (t : List ℕ). OnOk c.list_documents.result (Appends before after t)) (sym is)
-    (on_ok c.list_documents.result (λ w. Appends-trans before (g.K.Sink.end c.write_head.new.sink).bytes after _ _ c.in-Ok.ensures.ok w) c.list_documents.ensures.ok)
+    let is = collection_text_is c.args.form (named c.args.name.now) held c.len.result c.args.numbers.now count c.requires in
+    subst (λ (t : List ℕ). OnOk c.list_contents.result (Appends before after t)) (sym is)
+    (on_ok c.list_contents.result (λ w. Appends-trans before (g.K.Sink.end c.write_head.new.sink).bytes after _ _ c.in-Ok.ensures.ok w) c.list_contents.ensures.ok)
 
 pub returns-in-Ok-clause-err : goal.returns-in-Ok-clause-err
 returns-in-Ok-clause-err g c =
     let before = (g.K.Sink.end c.args.sink.now).bytes in
-    let after = (g.K.Sink.end c.list_documents.new.sink).bytes in
+    let after = (g.K.Sink.end c.list_contents.new.sink).bytes in
     let held = contents_in c.args.held.now in
     let count : c.len.result ≡ length held.documents = c.len.ensures.len ∙ sym (length-map c.args.held.now.documents.entries document_entry) in
-    let is = collection_text_is c.args.form (named c.args.name.now) held c.len.result count in
-    subst (λ (t : List ℕ). OnErr c.list_documents.result (AppendsFront before after t)) (sym is)
-    (on_err c.list_documents.result (λ w. front_behind before (g.K.Sink.end c.write_head.new.sink).bytes after _ _ c.in-Ok.ensures.ok w) c.list_documents.ensures.err)
+    let is = collection_text_is c.args.form (named c.args.name.now) held c.len.result c.args.numbers.now count c.requires in
+    subst (λ (t : List ℕ). OnErr c.list_contents.result (AppendsFront before after t)) (sym is)
+    (on_err c.list_contents.result (λ w. front_behind before (g.K.Sink.end c.write_head.new.sink).bytes after _ _ c.in-Ok.ensures.ok w) c.list_contents.ensures.err)
 
 pub returns-in-Err-clause-err : goal.returns-in-Err-clause-err
 returns-in-Err-clause-err g c =
@@ -36,5 +36,5 @@ returns-in-Err-clause-err g c =
     let after = (g.K.Sink.end c.write_head.new.sink).bytes in
     let held = contents_in c.args.held.now in
     let count : c.len.result ≡ length held.documents = c.len.ensures.len ∙ sym (length-map c.args.held.now.documents.entries document_entry) in
-    let is = collection_text_is c.args.form (named c.args.name.now) held c.len.result count in
+    let is = collection_text_is c.args.form (named c.args.name.now) held c.len.result c.args.numbers.now count c.requires in
     subst (λ (t : List ℕ). AppendsFront before after t) (sym is) (front_within before after _ _ c.in-Err.ensures.err)
