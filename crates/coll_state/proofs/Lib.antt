@@ -7,3 +7,4 @@ pub mod Named
 pub mod Sound
 pub mod Rooms
 pub mod Links
+pub mod ByKey

@@ -168,11 +168,21 @@ named_values : (ds : List Tree) → each (λ (e : Key × Tree). e.1) (named ds) 
 named_values [] = refl
 named_values (d ∷ ds) = ap (λ (z : List Tree). d ∷ z) (named_values ds)
 
-pub values_named : (ds : List Tree) → Rise key_cmp definition_name ds → ds ≡ map.values (indexes_in ds)
-values_named ds r =
+entries_named : (ds : List Tree) → Rise key_cmp definition_name ds → map.entries (indexes_in ds) ≡ named ds
+entries_named ds r =
     let s = sorted_named ds r in
     let is : map.from_sorted {R = key_cmp} (named ds) ≡ indexes_in ds = key_map_same _ _ (λ q. map.get-from_sorted key_cmp (named ds) q s ∙ sym (map.get-from_entries key_total (named ds) q)) in
-    sym (ap (each (λ (e : Key × Tree). e.1)) (ap map.entries (sym is) ∙ map.entries-from_sorted key_cmp (named ds) s) ∙ named_values ds)
+    sym (ap map.entries is) ∙ map.entries-from_sorted key_cmp (named ds) s
+
+pub values_named : (ds : List Tree) → Rise key_cmp definition_name ds → ds ≡ map.values (indexes_in ds)
+values_named ds r = sym (ap (each (λ (e : Key × Tree). e.1)) (entries_named ds r) ∙ named_values ds)
+
+named_keys : (ds : List Tree) → each (λ (e : Key × Tree). e.0) (named ds) ≡ each definition_name ds
+named_keys [] = refl
+named_keys (d ∷ ds) = ap (λ (z : List Key). definition_name d ∷ z) (named_keys ds)
+
+pub keys_named : (ds : List Tree) → Rise key_cmp definition_name ds → map.keys (indexes_in ds) ≡ each definition_name ds
+keys_named ds r = ap (each (λ (e : Key × Tree). e.0)) (entries_named ds r) ∙ named_keys ds
 
 cond_same : (a b : Bool) (x : Option Tree) (o u : Option Tree) → a ≡ b → o ≡ u → (if a then x else o) ≡ cond b x u
 cond_same true true x o u e f = refl

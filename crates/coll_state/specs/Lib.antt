@@ -1,6 +1,7 @@
 pub mod Rows
 pub mod Changes
 pub mod Definitions
+pub mod Documents
 pub mod Codes
 pub mod Kept
 pub mod Order

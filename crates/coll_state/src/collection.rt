@@ -1,16 +1,17 @@
 //! A collection: its options, its index definitions, and its documents in record order.
-ghost use Rattle.std.specs.Prelude.{◌≡◌, ◌+◌, ◌<◌, ◌≤◌, ◌^◌, [], OnOk, OnErr, option_map, is_some, Some, None, MatchResult, length};
+ghost use Rattle.std.specs.Prelude.{◌≡◌, ◌+◌, ◌<◌, ◌≤◌, ◌^◌, [], OnOk, OnErr, option_map, is_some, Some, None, MatchResult, length, map as each};
 ghost use Rattle.std.specs.Option.{option_copied};
 ghost use Rattle.std.specs.FinMap as map;
 ghost use Rattle.bson_encode.specs.Key.{key_of};
 ghost use Rattle.state_model.specs.Keys.{key_cmp};
-ghost use Rattle.coll_state.specs.Rows.{row_of, key_in, id_of, scan, IsSound};
+ghost use Rattle.coll_state.specs.Rows.{row_of, key_in, id_of, scan, collection_of, IsSound};
 ghost use Rattle.coll_state.specs.Changes.{fresh_table, put_table, drop_table, with_incarnation, put_index, take_index};
 ghost use Rattle.coll_state.specs.Definitions.{definition_name};
 ghost use Rattle.coll_state.specs.Order.{IsFound, IsGap};
 ghost use Rattle.coll_state.specs.Stock.{row_in, rows_in, Rise, beside};
 ghost use Rattle.std.specs.List.Sorted.{IsSearchInRange};
 
+use crate::documents::Documents;
 use crate::kept::Kept;
 use crate::sorted::Sorted;
 use bson_encode::cmp_key;
@@ -25,7 +26,7 @@ use std::marker::Model;
 #[derive(Drop)]
 pub(crate) struct Numbered {
     key: Bytes,
-    no: u128,
+    pub(crate) no: u128,
 }
 
 /// A document under its record number.
@@ -62,9 +63,9 @@ impl Model for Collection {
     ghost invariant = { λ c. AreParts c.indexes c.next c.numbers.items c.records.items };
 }
 
-// The name of a definition.
+/// The name of an index definition: the text of its field `name`, or an empty text where there is none.
 #[tactic(auto, unfolding(crate::specs::Definitions::definition_name))]
-fn name_of(def: &Tree) -> &str
+pub fn name_of(def: &Tree) -> &str
     ensures { result.now ≡ definition_name def.now }
 {
     match def {
@@ -145,7 +146,8 @@ impl Collection {
 
     /// The index definitions by name.
     pub(crate) fn indexes(&self) -> &JList<Tree>
-        ensures { result.now ≡ map.values self.now.table.indexes }
+        ensures definitions { result.now ≡ map.values self.now.table.indexes }
+        ensures names { map.keys self.now.table.indexes ≡ each definition_name result.now }
     {
         &self.indexes
     }
@@ -170,6 +172,13 @@ impl Collection {
         });
         let behind = &self.records.as_slice()[start..];
         &behind[..n.min(behind.len())]
+    }
+
+    /// The documents in the order of their keys.
+    pub(crate) fn documents(&self) -> Documents<'_>
+        ensures { result ≡ map.values (collection_of self.now.table).documents }
+    {
+        Documents::of(self.numbers.as_slice(), self.records.as_slice())
     }
 
     /// Another incarnation.

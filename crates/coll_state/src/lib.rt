@@ -4,6 +4,7 @@
 
 mod change;
 mod collection;
+mod documents;
 mod kept;
 mod laws;
 mod prepared;
@@ -13,6 +14,8 @@ mod tables;
 mod walks;
 
 pub use change::Change;
+pub use collection::name_of;
+pub use documents::Documents;
 pub use kept::{MAX_KEPT_BYTES, MAX_KEPT_LEVELS};
 pub use laws::changes_are_moves;
 pub use state::{COUNT_LIMIT, State};

@@ -1,10 +1,12 @@
 //! The collections of a server.
-ghost use Rattle.std.specs.Prelude.{length, ◌≡◌, ◌+◌, ◌<◌, ◌^◌, OnOk, OnErr, IfOk, is_some, option_map, true, false, None, ◌≢◌};
+ghost use Rattle.std.specs.Prelude.{length, ◌≡◌, ◌+◌, ◌<◌, ◌^◌, OnOk, OnErr, IfOk, is_some, option_map, true, false, None, ◌≢◌, map as each};
 ghost use Rattle.std.specs.Option.{option_copied};
 ghost use Rattle.std.specs.FinMap as map;
 ghost use Rattle.bson_encode.specs.Key.{key_of};
 ghost use Rattle.coll_state.specs.Rows.{id_of, key_in, AreSound};
 ghost use Rattle.coll_state.specs.Changes.{no_rows, put, remove, create, drop_ns, drop_db, rename, add_index, drop_index, document_at, has_index, rows_after};
+ghost use Rattle.coll_state.specs.Definitions.{definition_name};
+ghost use Rattle.coll_state.specs.Documents.{documents_by_key};
 ghost use Rattle.coll_state.specs.Walks.{names_left, looks, looks_left};
 ghost use Rattle.bson_view.specs.Kept.{kept_document};
 ghost use Rattle.coll_state.specs.ChangeAll.{AreThere, HaveIds, change_all};
@@ -12,6 +14,7 @@ ghost use Rattle.coll_state.specs.Kept.{shown, shown_in};
 
 use crate::change::{self, Change};
 use crate::collection::Collection;
+use crate::documents::Documents;
 use crate::kept::{Kept, decoded};
 use crate::tables::{self, Tables};
 use crate::walks::{After, Namespaces};
@@ -123,7 +126,8 @@ impl State {
 
     /// The index definitions, by name.
     pub fn indexes(&self, ns: &NsName) -> Option<&JList<Tree>>
-        ensures { option_copied result ≡ option_map (λ t. map.values t.indexes) (map.get self.now.tables ns.now) }
+        ensures definitions { option_copied result ≡ option_map (λ t. map.values t.indexes) (map.get self.now.tables ns.now) }
+        ensures names { option_map (λ defs. each definition_name defs.now) result ≡ option_map (λ t. map.keys t.indexes) (map.get self.now.tables ns.now) }
     {
         match tables::get(&self.tables, ns) {
             Some(collection) => Some(collection.indexes()),
@@ -170,6 +174,16 @@ impl State {
         match tables::get(&self.tables, ns) {
             Some(collection) => After::of(collection.after(number, n)),
             None => After::of(&[]),
+        }
+    }
+
+    /// The documents in the order of the keys of their `_id`s, none where the collection is missing.
+    pub fn documents(&self, ns: &NsName) -> Documents<'_>
+        ensures { result ≡ documents_by_key (map.get self.now.tables ns.now) }
+    {
+        match tables::get(&self.tables, ns) {
+            Some(collection) => collection.documents(),
+            None => Documents::of(&[], &[]),
         }
     }
 

@@ -133,6 +133,20 @@ impl Keys {
         self.keys.is_empty()
     }
 
+    /// The keys in their order. It takes no memory.
+    pub fn as_slice(&self) -> &[Key]
+        ensures { result.now ≡ self.now }
+    {
+        self.keys.as_slice()
+    }
+
+    /// The keys in their order. It takes no memory.
+    pub fn into_vec(self) -> Vec<Key>
+        ensures { result.items ≡ self }
+    {
+        self.keys.into_vec()
+    }
+
     /// The key at this place. It takes no memory.
     pub fn get(&self, i: usize) -> &Key
         requires { i < length self.now }

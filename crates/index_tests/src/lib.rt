@@ -1,6 +1,8 @@
-//! Worked index definitions, and keys of worked documents.
+//! Worked index definitions, keys of worked documents, and worked indexes.
 #![tactic(auto)]
 
+#[cfg(test)]
+mod counts;
 #[cfg(test)]
 mod definitions;
 #[cfg(test)]

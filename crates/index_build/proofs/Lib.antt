@@ -1,0 +1,5 @@
+pub mod Places
+pub mod Repeated
+pub mod Counted
+pub mod Names
+pub mod Walks
