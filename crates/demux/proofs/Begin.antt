@@ -14,25 +14,25 @@ watch_begins : (first : Option (List ℕ)) → Watch first first start 0 [] []
 watch_begins None = tt
 watch_begins (Some all) = record { clean = clean_none start 0 all; within = omega arith }
 
-begins_at : (first : Option (List ℕ)) (keep : Taking → Bool) (kept : Option (List Taking)) → Stands first first start 0 [] keep kept kept
-begins_at first keep kept = record { given = []; watch = watch_begins first; took = took_none keep kept }
+begins_at : {K : Type 0} (first : Option (List ℕ)) (adds : K → Taking → K) (known : Option K) → Stands first first start 0 [] adds known known
+begins_at first adds known = record { given = []; watch = watch_begins first; took = took_none adds known }
 
-pub begins : (first : Option (List ℕ)) (s : Stage) (held : List ℕ) (keep : Taking → Bool) (kept : Option (List Taking)) → s ≡ start → held ≡ [] → Stands first first s 0 held keep kept kept
-begins first s held keep kept e h = subst (λ z. Stands first first z 0 held keep kept kept) (sym e) (subst (λ z. Stands first first start 0 z keep kept kept) (sym h) (begins_at first keep kept))
+pub begins : {K : Type 0} (first : Option (List ℕ)) (s : Stage) (held : List ℕ) (adds : K → Taking → K) (known : Option K) → s ≡ start → held ≡ [] → Stands first first s 0 held adds known known
+begins first s held adds known e h = subst (λ z. Stands first first z 0 held adds known known) (sym e) (subst (λ z. Stands first first start 0 z adds known known) (sym h) (begins_at first adds known))
 
 -- a turn where the test that is kept stands for the test now
-pub turned : (r : Result (Option ℕ) DemuxFault) (first before_left now : Option (List ℕ)) (s t : Stage) (at : ℕ) (held after : List ℕ) (keep keep_now why : Taking → Bool) (before old new : Option (List Taking)) (rose : Type 0)
-    → keep_now ≡ keep → (Stands first before_left s at held keep_now before old → Turns r first now t after keep_now before new why rose) → Stands first before_left s at held keep before old → Turns r first now t after keep before new why rose
-turned r first before_left now s t at held after keep keep_now why before old new rose e f h = subst (λ k. Turns r first now t after k before new why rose) e (f (subst (λ k. Stands first before_left s at held k before old) (sym e) h))
+pub turned : {K : Type 0} (r : Result (Option ℕ) DemuxFault) (first before_left now : Option (List ℕ)) (s t : Stage) (at : ℕ) (held after : List ℕ) (adds adds_now : K → Taking → K) (why : Taking → Bool) (before old new : Option K) (rose : Type 0)
+    → adds_now ≡ adds → (Stands first before_left s at held adds_now before old → Turns r first now t after adds_now before new why rose) → Stands first before_left s at held adds before old → Turns r first now t after adds before new why rose
+turned r first before_left now s t at held after adds adds_now why before old new rose e f h = subst (λ k. Turns r first now t after k before new why rose) e (f (subst (λ k. Stands first before_left s at held k before old) (sym e) h))
 
-pub keeps_same : (x : Option (List ℕ)) → Keeps x x
-keeps_same None = tt
-keeps_same (Some xs) = refl
+pub addss_same : (x : Option (List ℕ)) → Keeps x x
+addss_same None = tt
+addss_same (Some xs) = refl
 
-pub keeps_none_taken : (x y : Option (List ℕ)) → Consumes x y [] → Keeps x y
-keeps_none_taken None y c = tt
-keeps_none_taken (Some xs) None c = c
-keeps_none_taken (Some xs) (Some ys) c = sym c
+pub addss_none_taken : (x y : Option (List ℕ)) → Consumes x y [] → Keeps x y
+addss_none_taken None y c = tt
+addss_none_taken (Some xs) None c = c
+addss_none_taken (Some xs) (Some ys) c = sym c
 
 -- an item that asks for memory stands behind a clean front of the input
 pub cut_asks : (s : Stage) (k : ℕ) (held left : List ℕ) → AsksFirst s (take k held) → AsksFirst s (held ++ left)

@@ -33,16 +33,16 @@ Unread (faults.Format f) at x = IsUnread f at x
 Unread f at x = ⊥
 
 -- a fault of the grammar, of the taker, who tells of the taking at which it stopped, or want of memory. Nothing was taken then
-abbrev pub Halted : DemuxFault → Verdict → (Taking → Bool) → Option (List Taking) → Option (List Taking) → (Taking → Bool) → Type 0
-Halted (faults.Format f) v keep old new why = (v ≡ bad f) × Took keep old new []
-Halted faults.NoMemory v keep old new why = Took keep old new []
-Halted faults.ReadFault v keep old new why = ⊥
-Halted faults.Stopped v keep old new why = (t : Stage) × (one : Taking) × (v ≡ goes t (one ∷ [])) × Took keep old new [] × (why one ≡ true)
+abbrev pub Halted : {K : Type 0} → DemuxFault → Verdict → (K → Taking → K) → Option K → Option K → (Taking → Bool) → Type 0
+Halted (faults.Format f) v adds old new why = (v ≡ bad f) × Took adds old new []
+Halted faults.NoMemory v adds old new why = Took adds old new []
+Halted faults.ReadFault v adds old new why = ⊥
+Halted faults.Stopped v adds old new why = (t : Stage) × (one : Taking) × (v ≡ goes t (one ∷ [])) × Took adds old new [] × (why one ≡ true)
 
 -- the verdict on the item, and what was handed out
-abbrev pub Stepped : {U : Type 0} → Result U DemuxFault → Stage → Verdict → (Taking → Bool) → Option (List Taking) → Option (List Taking) → (Taking → Bool) → Type 0
-Stepped (Ok u) t v keep old new why = (ts : List Taking) × (v ≡ goes t ts) × Took keep old new ts
-Stepped (Err f) t v keep old new why = Halted f v keep old new why
+abbrev pub Stepped : {U K : Type 0} → Result U DemuxFault → Stage → Verdict → (K → Taking → K) → Option K → Option K → (Taking → Bool) → Type 0
+Stepped (Ok u) t v adds old new why = (ts : List Taking) × (v ≡ goes t ts) × Took adds old new ts
+Stepped (Err f) t v adds old new why = Halted f v adds old new why
 
 -- the same of an item that hands out nothing
 abbrev pub Passes : {U : Type 0} → Result U FormatFault → Stage → Verdict → Type 0
@@ -71,16 +71,16 @@ Names (Ok u) t v i one = (e : Seen) × (slice_get t.seen i ≡ Some e) × (v ≡
 Names (Err f) t v i one = v ≡ bad f
 
 -- what reading shows at a place, and what was handed out
-abbrev pub Stuck : DemuxFault → Next → (Taking → Bool) → Option (List Taking) → Option (List Taking) → (Taking → Bool) → Type 0
-Stuck (faults.Format f) x keep old new why = (x ≡ wrong f) × Took keep old new []
-Stuck faults.NoMemory x keep old new why = Took keep old new []
-Stuck faults.ReadFault x keep old new why = ⊥
-Stuck faults.Stopped x keep old new why = (t : Stage) × (one : Taking) × (n : ℕ) × (x ≡ onward t (one ∷ []) n) × Took keep old new [] × (why one ≡ true)
+abbrev pub Stuck : {K : Type 0} → DemuxFault → Next → (K → Taking → K) → Option K → Option K → (Taking → Bool) → Type 0
+Stuck (faults.Format f) x adds old new why = (x ≡ wrong f) × Took adds old new []
+Stuck faults.NoMemory x adds old new why = Took adds old new []
+Stuck faults.ReadFault x adds old new why = ⊥
+Stuck faults.Stopped x adds old new why = (t : Stage) × (one : Taking) × (n : ℕ) × (x ≡ onward t (one ∷ []) n) × Took adds old new [] × (why one ≡ true)
 
-abbrev pub Turned : Result (Option ℕ) DemuxFault → Stage → Next → (Taking → Bool) → Option (List Taking) → Option (List Taking) → Stage → (Taking → Bool) → Type 0
-Turned (Ok None) t x keep old new s why = (x ≡ short) × (t ≡ s) × Took keep old new []
-Turned (Ok (Some n)) t x keep old new s why = (ts : List Taking) × (x ≡ onward t ts n) × Took keep old new ts
-Turned (Err f) t x keep old new s why = Stuck f x keep old new why
+abbrev pub Turned : {K : Type 0} → Result (Option ℕ) DemuxFault → Stage → Next → (K → Taking → K) → Option K → Option K → Stage → (Taking → Bool) → Type 0
+Turned (Ok None) t x adds old new s why = (x ≡ short) × (t ≡ s) × Took adds old new []
+Turned (Ok (Some n)) t x adds old new s why = (ts : List Taking) × (x ≡ onward t ts n) × Took adds old new ts
+Turned (Err f) t x adds old new s why = Stuck f x adds old new why
 
 -- no fault, or this one
 abbrev pub Closes : {U : Type 0} → Result U FormatFault → Option FormatFault → Type 0

@@ -1,9 +1,9 @@
--- What a taker keeps of what it was given.
-use Rattle.std.specs.Prelude.{⊤, ◌≡◌, List, ◌++◌, Bool, filter, Option, Some, None}
+-- What a taker knows of what it was given.
+use Rattle.std.specs.Prelude.{⊤, ◌≡◌, List, fold, Option, Some, None}
 use Rattle.archive_format.specs.Archive.{Taking}
 
--- the kept list grew by those of these takings that pass the test
-abbrev pub Took : (Taking → Bool) → Option (List Taking) → Option (List Taking) → List Taking → Type 0
-Took keep None new ts = ⊤
-Took keep (Some xs) None ts = ⊥
-Took keep (Some xs) (Some ys) ts = ys ≡ xs ++ filter keep ts
+-- what was known grew by these takings, one after the other
+abbrev pub Took : {K : Type 0} → (K → Taking → K) → Option K → Option K → List Taking → Type 0
+Took adds None new ts = ⊤
+Took adds (Some k) None ts = ⊥
+Took adds (Some k) (Some l) ts = l ≡ fold adds k ts

@@ -23,10 +23,10 @@ Watch None now s at held given = ⊤
 Watch (Some all) None s at held given = ⊥
 Watch (Some all) (Some left) s at held given = Holds all s at held left given
 
-pub record Stands (first now : Option (List ℕ)) (s : Stage) (at : ℕ) (held : List ℕ) (keep : Taking → Bool) (before kept : Option (List Taking)) : Type 0 where
+pub record Stands {K : Type 0} (first now : Option (List ℕ)) (s : Stage) (at : ℕ) (held : List ℕ) (adds : K → Taking → K) (before known : Option K) : Type 0 where
   pub given : List Taking
   pub watch : Watch first now s at held given
-  pub took : Took keep before kept given
+  pub took : Took adds before known given
 
 -- these takings are those of a clean front, and no more than the window's length was read behind it
 pub record Reach (all : List ℕ) (now : Option (List ℕ)) (given : List Taking) : Type 0 where
@@ -37,72 +37,72 @@ pub record Reach (all : List ℕ) (now : Option (List ℕ)) (given : List Taking
   pub near : IsNear (length all) to now
 
 -- the taker was given the takings of the longest clean front, behind which there is this fault or none
-pub record Whole (all : List ℕ) (e : Option FormatFault) (keep : Taking → Bool) (before kept : Option (List Taking)) : Type 0 where
+pub record Whole {K : Type 0} (all : List ℕ) (e : Option FormatFault) (adds : K → Taking → K) (before known : Option K) : Type 0 where
   pub given : List Taking
   pub ends : EndsOf all given e
-  pub took : Took keep before kept given
+  pub took : Took adds before known given
 
 -- the same of a fault, and how far the input was read
-pub record Wrong (all : List ℕ) (now : Option (List ℕ)) (f : FormatFault) (keep : Taking → Bool) (before kept : Option (List Taking)) : Type 0 where
-  pub whole : Whole all (Some f) keep before kept
+pub record Wrong {K : Type 0} (all : List ℕ) (now : Option (List ℕ)) (f : FormatFault) (adds : K → Taking → K) (before known : Option K) : Type 0 where
+  pub whole : Whole all (Some f) adds before known
   pub reach : Reach all now whole.given
 
 -- the taker was given the first of them
-pub record Part (all : List ℕ) (now : Option (List ℕ)) (keep : Taking → Bool) (before kept : Option (List Taking)) : Type 0 where
+pub record Part {K : Type 0} (all : List ℕ) (now : Option (List ℕ)) (adds : K → Taking → K) (before known : Option K) : Type 0 where
   pub given : List Taking
   pub more : List Taking
   pub fault : Option FormatFault
   pub ends : EndsOf all (given ++ more) fault
-  pub took : Took keep before kept given
+  pub took : Took adds before known given
   pub reach : Reach all now given
 
 -- the same, and it refused the next, of which it tells
-pub record Stop (all : List ℕ) (now : Option (List ℕ)) (keep : Taking → Bool) (before kept : Option (List Taking)) (why : Taking → Bool) : Type 0 where
+pub record Stop {K : Type 0} (all : List ℕ) (now : Option (List ℕ)) (adds : K → Taking → K) (before known : Option K) (why : Taking → Bool) : Type 0 where
   pub given : List Taking
   pub refused : Taking
   pub more : List Taking
   pub fault : Option FormatFault
   pub ends : EndsOf all (given ++ (refused ∷ more)) fault
-  pub took : Took keep before kept given
+  pub took : Took adds before known given
   pub told : why refused ≡ true
   pub reach : Reach all now given
 
 -- there was no memory: the taker had none, or directly behind what it was given stands an item that asks for memory
-pub record Starved (all : List ℕ) (now : Option (List ℕ)) (keep : Taking → Bool) (before kept : Option (List Taking)) (rose : Type 0) : Type 0 where
-  pub part : Part all now keep before kept
+pub record Starved {K : Type 0} (all : List ℕ) (now : Option (List ℕ)) (adds : K → Taking → K) (before known : Option K) (rose : Type 0) : Type 0 where
+  pub part : Part all now adds before known
   pub cause : rose ⊎ AsksFirst part.reach.stage part.reach.rest
 
 -- a read failed: what was read behind what the taker was given is less than an item, and no fault yet
-pub record Broken (all : List ℕ) (now : Option (List ℕ)) (keep : Taking → Bool) (before kept : Option (List Taking)) : Type 0 where
-  pub part : Part all now keep before kept
+pub record Broken {K : Type 0} (all : List ℕ) (now : Option (List ℕ)) (adds : K → Taking → K) (before known : Option K) : Type 0 where
+  pub part : Part all now adds before known
   pub held : List ℕ
   pub left : List ℕ
   pub now_left : now ≡ Some left
   pub is_rest : part.reach.rest ≡ held ++ left
   pub unsettled : next part.reach.stage part.reach.to held ≡ short
 
-abbrev pub Tells_fault : DemuxFault → List ℕ → Option (List ℕ) → (Taking → Bool) → Option (List Taking) → Option (List Taking) → (Taking → Bool) → Type 0 → Type 0
-Tells_fault (faults.Format f) all now keep before kept why rose = Wrong all now f keep before kept
-Tells_fault faults.NoMemory all now keep before kept why rose = Starved all now keep before kept rose
-Tells_fault faults.ReadFault all now keep before kept why rose = Broken all now keep before kept
-Tells_fault faults.Stopped all now keep before kept why rose = Stop all now keep before kept why
+abbrev pub Tells_fault : {K : Type 0} → DemuxFault → List ℕ → Option (List ℕ) → (K → Taking → K) → Option K → Option K → (Taking → Bool) → Type 0 → Type 0
+Tells_fault (faults.Format f) all now adds before known why rose = Wrong all now f adds before known
+Tells_fault faults.NoMemory all now adds before known why rose = Starved all now adds before known rose
+Tells_fault faults.ReadFault all now adds before known why rose = Broken all now adds before known
+Tells_fault faults.Stopped all now adds before known why rose = Stop all now adds before known why
 
-abbrev pub Fault_told : DemuxFault → Option (List ℕ) → Option (List ℕ) → (Taking → Bool) → Option (List Taking) → Option (List Taking) → (Taking → Bool) → Type 0 → Type 0
-Fault_told f None now keep before kept why rose = ⊤
-Fault_told f (Some all) now keep before kept why rose = Tells_fault f all now keep before kept why rose
+abbrev pub Fault_told : {K : Type 0} → DemuxFault → Option (List ℕ) → Option (List ℕ) → (K → Taking → K) → Option K → Option K → (Taking → Bool) → Type 0 → Type 0
+Fault_told f None now adds before known why rose = ⊤
+Fault_told f (Some all) now adds before known why rose = Tells_fault f all now adds before known why rose
 
 -- the input was read to its end, and is an archive
-abbrev pub End_told : Option (List ℕ) → Option (List ℕ) → (Taking → Bool) → Option (List Taking) → Option (List Taking) → Type 0
-End_told None now keep before kept = ⊤
-End_told (Some all) now keep before kept = (now ≡ Some []) × Whole all None keep before kept
+abbrev pub End_told : {K : Type 0} → Option (List ℕ) → Option (List ℕ) → (K → Taking → K) → Option K → Option K → Type 0
+End_told None now adds before known = ⊤
+End_told (Some all) now adds before known = (now ≡ Some []) × Whole all None adds before known
 
 -- `rose`: the taker found no memory in this run
-abbrev pub Tells : {U : Type 0} → Result U DemuxFault → Option (List ℕ) → Option (List ℕ) → (Taking → Bool) → Option (List Taking) → Option (List Taking) → (Taking → Bool) → Type 0 → Type 0
-Tells (Ok u) first now keep before kept why rose = End_told first now keep before kept
-Tells (Err f) first now keep before kept why rose = Fault_told f first now keep before kept why rose
+abbrev pub Tells : {U K : Type 0} → Result U DemuxFault → Option (List ℕ) → Option (List ℕ) → (K → Taking → K) → Option K → Option K → (Taking → Bool) → Type 0 → Type 0
+Tells (Ok u) first now adds before known why rose = End_told first now adds before known
+Tells (Err f) first now adds before known why rose = Fault_told f first now adds before known why rose
 
 -- one turn: on from another place, at the end, or a fault
-abbrev pub Turns : Result (Option ℕ) DemuxFault → Option (List ℕ) → Option (List ℕ) → Stage → List ℕ → (Taking → Bool) → Option (List Taking) → Option (List Taking) → (Taking → Bool) → Type 0 → Type 0
-Turns (Ok (Some at)) first now s held keep before kept why rose = Stands first now s at held keep before kept
-Turns (Ok None) first now s held keep before kept why rose = End_told first now keep before kept
-Turns (Err f) first now s held keep before kept why rose = Fault_told f first now keep before kept why rose
+abbrev pub Turns : {K : Type 0} → Result (Option ℕ) DemuxFault → Option (List ℕ) → Option (List ℕ) → Stage → List ℕ → (K → Taking → K) → Option K → Option K → (Taking → Bool) → Type 0 → Type 0
+Turns (Ok (Some at)) first now s held adds before known why rose = Stands first now s at held adds before known
+Turns (Ok None) first now s held adds before known why rose = End_told first now adds before known
+Turns (Err f) first now s held adds before known why rose = Fault_told f first now adds before known why rose

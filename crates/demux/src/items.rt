@@ -18,8 +18,8 @@ impl Progress {
         taker: &mut T,
     ) -> Result<(), DemuxFault>
         requires fresh { (T.stops taker.old ≡ 0) × (T.starved taker.old ≡ 0) }
-        ensures steps { Stepped result (stage_of self.new) (sound at (meta_step (stage_of self.old) at (metadata_in bytes.now)) (fault_in bytes.now)) (T.keeps taker.old) (T.kept taker.old) (T.kept taker.new) (T.halted taker.new) }
-        ensures same { T.keeps taker.new ≡ T.keeps taker.old }
+        ensures steps { Stepped result (stage_of self.new) (sound at (meta_step (stage_of self.old) at (metadata_in bytes.now)) (fault_in bytes.now)) (T.adds taker.old) (T.known taker.old) (T.known taker.new) (T.halted taker.new) }
+        ensures same { T.adds taker.new ≡ T.adds taker.old }
         ensures fresh { OnOk result ((T.stops taker.new ≡ 0) × (T.starved taker.new ≡ 0)) }
         ensures stopped { IsErrOf result DemuxFault.Stopped → Rose (T.stops taker.old) (T.stops taker.new) }
     {
@@ -37,8 +37,8 @@ impl Progress {
         taker: &mut T,
     ) -> Result<(), DemuxFault>
         requires fresh { (T.stops taker.old ≡ 0) × (T.starved taker.old ≡ 0) }
-        ensures steps { Stepped result (stage_of self.new) (sound at (doc_step (stage_of self.old) at i bytes.now (slice_get self.old.seen i)) (fault_in bytes.now)) (T.keeps taker.old) (T.kept taker.old) (T.kept taker.new) (T.halted taker.new) }
-        ensures same { T.keeps taker.new ≡ T.keeps taker.old }
+        ensures steps { Stepped result (stage_of self.new) (sound at (doc_step (stage_of self.old) at i bytes.now (slice_get self.old.seen i)) (fault_in bytes.now)) (T.adds taker.old) (T.known taker.old) (T.known taker.new) (T.halted taker.new) }
+        ensures same { T.adds taker.new ≡ T.adds taker.old }
         ensures fresh { OnOk result ((T.stops taker.new ≡ 0) × (T.starved taker.new ≡ 0)) }
         ensures stopped { IsErrOf result DemuxFault.Stopped → Rose (T.stops taker.old) (T.stops taker.new) }
         ensures starved { IsErrOf result DemuxFault.NoMemory → Rose (T.starved taker.old) (T.starved taker.new) }
@@ -58,8 +58,8 @@ impl Progress {
         taker: &mut T,
     ) -> Result<(), DemuxFault>
         requires fresh { (T.stops taker.old ≡ 0) × (T.starved taker.old ≡ 0) }
-        ensures steps { Stepped result (stage_of self.new) (end_step (stage_of self.old) at i said (slice_get self.old.seen i)) (T.keeps taker.old) (T.kept taker.old) (T.kept taker.new) (T.halted taker.new) }
-        ensures same { T.keeps taker.new ≡ T.keeps taker.old }
+        ensures steps { Stepped result (stage_of self.new) (end_step (stage_of self.old) at i said (slice_get self.old.seen i)) (T.adds taker.old) (T.known taker.old) (T.known taker.new) (T.halted taker.new) }
+        ensures same { T.adds taker.new ≡ T.adds taker.old }
         ensures fresh { OnOk result ((T.stops taker.new ≡ 0) × (T.starved taker.new ≡ 0)) }
         ensures stopped { IsErrOf result DemuxFault.Stopped → Rose (T.stops taker.old) (T.stops taker.new) }
         ensures starved { IsErrOf result DemuxFault.NoMemory → Rose (T.starved taker.old) (T.starved taker.new) }
@@ -79,8 +79,8 @@ impl Progress {
         taker: &mut T,
     ) -> Result<(), DemuxFault>
         requires fresh { (T.stops taker.old ≡ 0) × (T.starved taker.old ≡ 0) }
-        ensures steps { Stepped result (stage_of self.new) (step (stage_of self.old) at (document bytes.now)) (T.keeps taker.old) (T.kept taker.old) (T.kept taker.new) (T.halted taker.new) }
-        ensures same { T.keeps taker.new ≡ T.keeps taker.old }
+        ensures steps { Stepped result (stage_of self.new) (step (stage_of self.old) at (document bytes.now)) (T.adds taker.old) (T.known taker.old) (T.known taker.new) (T.halted taker.new) }
+        ensures same { T.adds taker.new ≡ T.adds taker.old }
         ensures fresh { OnOk result ((T.stops taker.new ≡ 0) × (T.starved taker.new ≡ 0)) }
         ensures stopped { IsErrOf result DemuxFault.Stopped → Rose (T.stops taker.old) (T.stops taker.new) }
         ensures starved { IsErrOf result DemuxFault.NoMemory → Rose (T.starved taker.old) (T.starved taker.new) ⊎ Asks (stage_of self.old) (document bytes.now) }
@@ -98,8 +98,8 @@ impl Progress {
     #[tactic(auto, unfolding(archive_format::specs::Archive::step_at))]
     fn terminator<T: DocTaker>(&mut self, at: u64, taker: &mut T) -> Result<(), DemuxFault>
         requires fresh { (T.stops taker.old ≡ 0) × (T.starved taker.old ≡ 0) }
-        ensures steps { Stepped result (stage_of self.new) (step (stage_of self.old) at terminator) (T.keeps taker.old) (T.kept taker.old) (T.kept taker.new) (T.halted taker.new) }
-        ensures same { T.keeps taker.new ≡ T.keeps taker.old }
+        ensures steps { Stepped result (stage_of self.new) (step (stage_of self.old) at terminator) (T.adds taker.old) (T.known taker.old) (T.known taker.new) (T.halted taker.new) }
+        ensures same { T.adds taker.new ≡ T.adds taker.old }
         ensures fresh { OnOk result ((T.stops taker.new ≡ 0) × (T.starved taker.new ≡ 0)) }
         ensures stopped { IsErrOf result DemuxFault.Stopped → Rose (T.stops taker.old) (T.stops taker.new) }
         ensures starved { IsErrOf result DemuxFault.NoMemory → Rose (T.starved taker.old) (T.starved taker.new) }
@@ -130,8 +130,8 @@ impl Progress {
         taker: &mut T,
     ) -> Result<(), DemuxFault>
         requires fresh { (T.stops taker.old ≡ 0) × (T.starved taker.old ≡ 0) }
-        ensures steps { Stepped result (stage_of self.new) (step (stage_of self.old) at (item_of word.now bytes.now)) (T.keeps taker.old) (T.kept taker.old) (T.kept taker.new) (T.halted taker.new) }
-        ensures same { T.keeps taker.new ≡ T.keeps taker.old }
+        ensures steps { Stepped result (stage_of self.new) (step (stage_of self.old) at (item_of word.now bytes.now)) (T.adds taker.old) (T.known taker.old) (T.known taker.new) (T.halted taker.new) }
+        ensures same { T.adds taker.new ≡ T.adds taker.old }
         ensures fresh { OnOk result ((T.stops taker.new ≡ 0) × (T.starved taker.new ≡ 0)) }
         ensures stopped { IsErrOf result DemuxFault.Stopped → Rose (T.stops taker.old) (T.stops taker.new) }
         ensures starved { IsErrOf result DemuxFault.NoMemory → Rose (T.starved taker.old) (T.starved taker.new) ⊎ Asks (stage_of self.old) (item_of word.now bytes.now) }
@@ -154,8 +154,8 @@ impl Progress {
         taker: &mut T,
     ) -> Result<Option<usize>, DemuxFault>
         requires fresh { (T.stops taker.old ≡ 0) × (T.starved taker.old ≡ 0) }
-        ensures turned { Turned result (stage_of self.new) (next (stage_of self.old) at held.now) (T.keeps taker.old) (T.kept taker.old) (T.kept taker.new) (stage_of self.old) (T.halted taker.new) }
-        ensures same { T.keeps taker.new ≡ T.keeps taker.old }
+        ensures turned { Turned result (stage_of self.new) (next (stage_of self.old) at held.now) (T.adds taker.old) (T.known taker.old) (T.known taker.new) (stage_of self.old) (T.halted taker.new) }
+        ensures same { T.adds taker.new ≡ T.adds taker.old }
         ensures fresh { OnOk result ((T.stops taker.new ≡ 0) × (T.starved taker.new ≡ 0)) }
         ensures stopped { IsErrOf result DemuxFault.Stopped → Rose (T.stops taker.old) (T.stops taker.new) }
         ensures starved { IsErrOf result DemuxFault.NoMemory → Rose (T.starved taker.old) (T.starved taker.new) ⊎ AsksFirst (stage_of self.old) held.now }

@@ -77,8 +77,8 @@ fn more<S: Source>(
     requires room { length window.old.bytes ≤ 16793600 }
     requires short { next (stage_of progress.old) at (take (limit - at) window.old.bytes) ≡ short }
     ensures room { OnOk result (length window.new.bytes ≤ 16793600) }
-    ensures turns { (first : Option (List ℕ)) (keep why : Taking → Bool) (before kept : Option (List Taking)) → Stands first (S.end source.old).bytes (stage_of progress.old) at window.old.bytes keep before kept
-        → Turns result first (S.end source.new).bytes (stage_of progress.new) window.new.bytes keep before kept why ⊥ }
+    ensures turns { (first : Option (List ℕ)) (K : Type 0) (adds : K → Taking → K) (why : Taking → Bool) (before known : Option K) → Stands first (S.end source.old).bytes (stage_of progress.old) at window.old.bytes adds before known
+        → Turns result first (S.end source.new).bytes (stage_of progress.new) window.new.bytes adds before known why ⊥ }
     ensures size { window.new.size ≡ window.old.size }
     ensures on { IfOk result (λ r. IfSome r (λ b. (b ≡ at) × (length window.old.bytes < length window.new.bytes))) }
     ensures read_fault { IsErrOf result DemuxFault.ReadFault → Rose (S.end source.old).faults (S.end source.new).faults }
@@ -114,9 +114,9 @@ fn turn<S: Source, T: DocTaker>(
     requires size { window.old.size ≡ 16793600 }
     requires room { length window.old.bytes ≤ 16793600 }
     ensures room { OnOk result (length window.new.bytes ≤ 16793600) }
-    ensures turns { (first : Option (List ℕ)) (before : Option (List Taking)) → Stands first (S.end source.old).bytes (stage_of progress.old) at window.old.bytes (T.keeps taker.old) before (T.kept taker.old)
-        → Turns result first (S.end source.new).bytes (stage_of progress.new) window.new.bytes (T.keeps taker.old) before (T.kept taker.new) (T.halted taker.new) (Rose (T.starved taker.old) (T.starved taker.new)) }
-    ensures same { T.keeps taker.new ≡ T.keeps taker.old }
+    ensures turns { (first : Option (List ℕ)) (before : Option T.Known) → Stands first (S.end source.old).bytes (stage_of progress.old) at window.old.bytes (T.adds taker.old) before (T.known taker.old)
+        → Turns result first (S.end source.new).bytes (stage_of progress.new) window.new.bytes (T.adds taker.old) before (T.known taker.new) (T.halted taker.new) (Rose (T.starved taker.old) (T.starved taker.new)) }
+    ensures same { T.adds taker.new ≡ T.adds taker.old }
     ensures size { window.new.size ≡ window.old.size }
     ensures on { IfOk result (λ r. IfSome r (λ b. (b ≤ limit) × (at + (at + length window.old.bytes) < b + (b + length window.new.bytes)))) }
     ensures fresh { OnOk result ((T.stops taker.new ≡ 0) × (T.starved taker.new ≡ 0)) }
@@ -165,11 +165,11 @@ impl Demux {
         taker: &mut T,
     ) -> Result<(), DemuxFault>
         requires fresh { (T.stops taker.old ≡ 0) × (T.starved taker.old ≡ 0) }
-        ensures told { Tells result (S.end source.old).bytes (S.end source.new).bytes (T.keeps taker.old) (T.kept taker.old) (T.kept taker.new) (T.halted taker.new) (Rose 0 (T.starved taker.new)) }
+        ensures told { Tells result (S.end source.old).bytes (S.end source.new).bytes (T.adds taker.old) (T.known taker.old) (T.known taker.new) (T.halted taker.new) (Rose 0 (T.starved taker.new)) }
         ensures read_fault { IsErrOf result DemuxFault.ReadFault → Rose (S.end source.old).faults (S.end source.new).faults }
         ensures stopped { IsErrOf result DemuxFault.Stopped → Rose 0 (T.stops taker.new) }
         ensures fresh { OnOk result ((T.stops taker.new ≡ 0) × (T.starved taker.new ≡ 0)) }
-        ensures same { T.keeps taker.new ≡ T.keeps taker.old }
+        ensures same { T.adds taker.new ≡ T.adds taker.old }
         ensures later { (S.end source.old).faults ≤ (S.end source.new).faults }
     {
         let mut window = self.window;

@@ -16,12 +16,14 @@ pub enum Halt {
 }
 
 /// Takes metadata texts, documents and ends, in order of the bytes. It is called only while both of its counts are 0,
-/// so they never fall. A taking that it refuses isn't kept.
+/// so they never fall. A taking that it refuses adds nothing to what it knows.
 pub trait DocTaker {
-    /// Which takings it keeps. No taking changes this.
-    ghost keeps: { Self → Taking → Bool };
-    /// The takings that it kept, where they are known.
-    ghost kept: { Self → Option (List Taking) };
+    /// What it can know of what it took: a list of takings, say, or what they make.
+    ghost Known: { Type 0 };
+    /// What a taking adds to what was known. No taking changes this.
+    ghost adds: { Self → Self.Known → Taking → Self.Known };
+    /// What it knows of what it took, where it tells.
+    ghost known: { Self → Option Self.Known };
     /// How often it stopped.
     ghost stops: { Self → ℕ };
     /// How often it found no memory.
@@ -32,9 +34,9 @@ pub trait DocTaker {
     /// The metadata text of a namespace that isn't the oplog.
     fn meta(&mut self, ns: &NsName, text: &str) -> Result<(), Halt>
         requires fresh { (stops self.old ≡ 0) × (starved self.old ≡ 0) }
-        ensures ok { OnOk result (Took (keeps self.old) (kept self.old) (kept self.new) (meta_taking ns.now text.now ∷ [])) }
-        ensures err { OnErr result (Took (keeps self.old) (kept self.old) (kept self.new) []) }
-        ensures same { keeps self.new ≡ keeps self.old }
+        ensures ok { OnOk result (Took (adds self.old) (known self.old) (known self.new) (meta_taking ns.now text.now ∷ [])) }
+        ensures err { OnErr result (Took (adds self.old) (known self.old) (known self.new) []) }
+        ensures same { adds self.new ≡ adds self.old }
         ensures fresh { OnOk result ((stops self.new ≡ 0) × (starved self.new ≡ 0)) }
         ensures stopped { IsErrOf result Halt.Stopped → Rose (stops self.old) (stops self.new) }
         ensures halted { IsErrOf result Halt.Stopped → halted self.new (meta_taking ns.now text.now) ≡ true }
@@ -44,9 +46,9 @@ pub trait DocTaker {
     fn doc(&mut self, ns: &NsName, bytes: &[u8]) -> Result<(), Halt>
         requires fresh { (stops self.old ≡ 0) × (starved self.old ≡ 0) }
         requires document { fault_in bytes.now ≡ None }
-        ensures ok { OnOk result (Took (keeps self.old) (kept self.old) (kept self.new) (doc_taking ns.now bytes.now ∷ [])) }
-        ensures err { OnErr result (Took (keeps self.old) (kept self.old) (kept self.new) []) }
-        ensures same { keeps self.new ≡ keeps self.old }
+        ensures ok { OnOk result (Took (adds self.old) (known self.old) (known self.new) (doc_taking ns.now bytes.now ∷ [])) }
+        ensures err { OnErr result (Took (adds self.old) (known self.old) (known self.new) []) }
+        ensures same { adds self.new ≡ adds self.old }
         ensures fresh { OnOk result ((stops self.new ≡ 0) × (starved self.new ≡ 0)) }
         ensures stopped { IsErrOf result Halt.Stopped → Rose (stops self.old) (stops self.new) }
         ensures halted { IsErrOf result Halt.Stopped → halted self.new (doc_taking ns.now bytes.now) ≡ true }
@@ -55,9 +57,9 @@ pub trait DocTaker {
     /// The end of a namespace, whose documents were all given.
     fn end(&mut self, ns: &NsName) -> Result<(), Halt>
         requires fresh { (stops self.old ≡ 0) × (starved self.old ≡ 0) }
-        ensures ok { OnOk result (Took (keeps self.old) (kept self.old) (kept self.new) (end_taking ns.now ∷ [])) }
-        ensures err { OnErr result (Took (keeps self.old) (kept self.old) (kept self.new) []) }
-        ensures same { keeps self.new ≡ keeps self.old }
+        ensures ok { OnOk result (Took (adds self.old) (known self.old) (known self.new) (end_taking ns.now ∷ [])) }
+        ensures err { OnErr result (Took (adds self.old) (known self.old) (known self.new) []) }
+        ensures same { adds self.new ≡ adds self.old }
         ensures fresh { OnOk result ((stops self.new ≡ 0) × (starved self.new ≡ 0)) }
         ensures stopped { IsErrOf result Halt.Stopped → Rose (stops self.old) (stops self.new) }
         ensures halted { IsErrOf result Halt.Stopped → halted self.new (end_taking ns.now) ≡ true }

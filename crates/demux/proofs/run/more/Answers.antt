@@ -11,8 +11,8 @@ use Rattle.demux.proofs.Turn.{far_told, read_failed, end_refused, end_accepted, 
 use Rattle.demux.proofs.run.more.Goals as goal
 
 pub returns-then-at-seen-clause-turns : goal.returns-then-at-seen-clause-turns
-returns-then-at-seen-clause-turns g c = λ first keep why before kept h.
-    far_told keep before kept kept why (stage_of c.args.progress.now) c.args.at c.args.window.now.bytes first (g.S.Source.end c.args.source.now).bytes (g.S.Source.end c.args.source.now).bytes h c.requires.room (keeps_same (g.S.Source.end c.args.source.now).bytes) c.requires.short (omega (arith, ap length c.held.ensures.bytes)) (took_none keep kept)
+returns-then-at-seen-clause-turns g c = λ first adds why before known h.
+    far_told adds before known known why (stage_of c.args.progress.now) c.args.at c.args.window.now.bytes first (g.S.Source.end c.args.source.now).bytes (g.S.Source.end c.args.source.now).bytes h c.requires.room (keeps_same (g.S.Source.end c.args.source.now).bytes) c.requires.short (omega (arith, ap length c.held.ensures.bytes)) (took_none adds known)
 
 pub fill-requires : goal.fill-requires
 fill-requires g c =
@@ -22,11 +22,11 @@ fill-requires g c =
     omega (arith, k, ap length all)
 
 pub returns-in-Err-clause-turns : goal.returns-in-Err-clause-turns
-returns-in-Err-clause-turns g c = λ first keep why before kept h.
+returns-in-Err-clause-turns g c = λ first adds why before known h.
     let s = stage_of c.args.progress.now in
     let b = c.args.window.now.bytes in
     let all : take (limit - c.args.at) b ≡ b = take_all (limit - c.args.at) b (omega (arith, ap length c.held.ensures.bytes)) in
-    read_failed keep before kept kept why s c.args.at b first (g.S.Source.end c.args.source.now).bytes (g.S.Source.end c.fill.new.source).bytes h c.requires.room c.in-Err.ensures.kept.1 (subst (λ y. next s c.args.at y ≡ short) all c.requires.short) (took_none keep kept)
+    read_failed adds before known known why s c.args.at b first (g.S.Source.end c.args.source.now).bytes (g.S.Source.end c.fill.new.source).bytes h c.requires.room c.in-Err.ensures.kept.1 (subst (λ y. next s c.args.at y ≡ short) all c.requires.short) (took_none adds known)
 
 none_read : {b after : List ℕ} {left now : Option (List ℕ)} (n : ℕ) → n ≡ 0 → Fills b after n left now → (after ≡ b) × Consumes left now []
 none_read {b} {after} {left} {now} n z f =
@@ -34,7 +34,7 @@ none_read {b} {after} {left} {now} n z f =
     (f.held ∙ ap (λ x. b ++ x) e ∙ append-nil b, subst (Consumes left now) e f.taken)
 
 pub returns-in-Ok-ending-clause-turns : goal.returns-in-Ok-ending-clause-turns
-returns-in-Ok-ending-clause-turns g c = λ first keep why before kept h.
+returns-in-Ok-ending-clause-turns g c = λ first adds why before known h.
     let s = stage_of c.args.progress.now in
     let at = c.args.at in
     let b = c.args.window.now.bytes in
@@ -44,11 +44,11 @@ returns-in-Ok-ending-clause-turns g c = λ first keep why before kept h.
     let all : take (limit - at) b ≡ b = take_all (limit - at) b (omega (arith, ap length c.held.ensures.bytes)) in
     let near : at + length b ≤ limit = omega (arith, ap length c.held.ensures.bytes) in
     let same : c.held-in-Ok-eq0.result.now ≡ b = c.held-in-Ok-eq0.ensures.bytes ∙ n.0 in
-    end_accepted keep before kept kept why s at b first (g.S.Source.end c.args.source.now).bytes (g.S.Source.end c.fill.new.source).bytes h (subst (λ y. next s at y ≡ short) all c.requires.short) near n.1 (f.ended z)
-    (subst (λ y. ending false s at y ≡ None) same c.in-Ok-ending.ensures) (took_none keep kept)
+    end_accepted adds before known known why s at b first (g.S.Source.end c.args.source.now).bytes (g.S.Source.end c.fill.new.source).bytes h (subst (λ y. next s at y ≡ short) all c.requires.short) near n.1 (f.ended z)
+    (subst (λ y. ending false s at y ≡ None) same c.in-Ok-ending.ensures) (took_none adds known)
 
 pub returns-in-Err-ending-clause-turns : goal.returns-in-Err-ending-clause-turns
-returns-in-Err-ending-clause-turns g c = λ first keep why before kept h.
+returns-in-Err-ending-clause-turns g c = λ first adds why before known h.
     let s = stage_of c.args.progress.now in
     let at = c.args.at in
     let b = c.args.window.now.bytes in
@@ -58,5 +58,5 @@ returns-in-Err-ending-clause-turns g c = λ first keep why before kept h.
     let all : take (limit - at) b ≡ b = take_all (limit - at) b (omega (arith, ap length c.held.ensures.bytes)) in
     let near : at + length b ≤ limit = omega (arith, ap length c.held.ensures.bytes) in
     let same : c.held-in-Ok-eq0.result.now ≡ b = c.held-in-Ok-eq0.ensures.bytes ∙ n.0 in
-    end_refused keep before kept kept why s at b first (g.S.Source.end c.args.source.now).bytes (g.S.Source.end c.fill.new.source).bytes c.in-Err-ending.fault h c.requires.room (subst (λ y. next s at y ≡ short) all c.requires.short) near n.1 (f.ended z)
-    (subst (λ y. ending false s at y ≡ Some c.in-Err-ending.fault) same c.in-Err-ending.ensures) (took_none keep kept)
+    end_refused adds before known known why s at b first (g.S.Source.end c.args.source.now).bytes (g.S.Source.end c.fill.new.source).bytes c.in-Err-ending.fault h c.requires.room (subst (λ y. next s at y ≡ short) all c.requires.short) near n.1 (f.ended z)
+    (subst (λ y. ending false s at y ≡ Some c.in-Err-ending.fault) same c.in-Err-ending.ensures) (took_none adds known)

@@ -8,8 +8,8 @@ abbrev pub invariant-turns : goal.invariant-turns
 invariant-turns g l =
     let taker = g.T.DocTaker in
     record {
-      stands : Stands (g.S.Source.end l.fn.source).bytes (g.S.Source.end l.source).bytes (stage_of l.progress) l.at l.window.bytes (taker.keeps l.fn.taker) (taker.kept l.fn.taker) (taker.kept l.taker);
-      same : taker.keeps l.taker ≡ taker.keeps l.fn.taker;
+      stands : Stands (g.S.Source.end l.fn.source).bytes (g.S.Source.end l.source).bytes (stage_of l.progress) l.at l.window.bytes (taker.adds l.fn.taker) (taker.known l.fn.taker) (taker.known l.taker);
+      same : taker.adds l.taker ≡ taker.adds l.fn.taker;
       stops : taker.stops l.taker ≡ 0;
       starved : taker.starved l.taker ≡ 0;
       within : l.at ≤ limit;
