@@ -156,11 +156,13 @@ impl Notes {
 }
 
 impl DocTaker for Notes {
-    ghost use Rattle.std.specs.Prelude.{true, None};
+    ghost use Rattle.std.specs.Prelude.{ℕ, true, None};
 
-    ghost keeps = { λ _ _. true };
+    ghost Known = { ℕ };
 
-    ghost kept = { λ _. None };
+    ghost adds = { λ _ known _. known };
+
+    ghost known = { λ _. None };
 
     ghost stops = { λ n. n.stops };
 

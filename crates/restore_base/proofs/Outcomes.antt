@@ -1,7 +1,7 @@
 -- The outcome of an input: there is one, and what a run tells shows it.
-use Rattle.std.proofs.Common.{◌≡◌, ℕ, Bool, true, false, List, [], ◌∷◌, ◌++◌, take, length, ◌≤◌, arith, refl, sym, ap, subst, ◌∙◌, cond}
-use Rattle.std.specs.Prelude.{Option, Some, None, IsSome, nat_lt, filter, not, ◌||◌, ◌&&◌, ◌==◌, bytes_eq}
-use Rattle.std.proofs.lemmas.List.{map-append}
+use Rattle.std.proofs.Common.{◌≡◌, ℕ, Bool, true, false, List, [], ◌∷◌, ◌++◌, take, length, ◌≤◌, arith, refl, sym, ap, subst, ◌∙◌, cond, append_assoc}
+use Rattle.std.specs.Prelude.{Option, Some, None, IsSome, nat_lt, filter, fold, not, ◌||◌, ◌&&◌, ◌==◌, bytes_eq}
+use Rattle.std.proofs.lemmas.List.{map-append, append-nil}
 use Rattle.std.specs.Cmp.{unsigned_Decides}
 use Rattle.metadata_text.specs.Metadata.{metadata_of}
 use Rattle.std.proofs.lemmas.Slice.Eq.{bytes_eq-Decides}
@@ -15,7 +15,7 @@ use Rattle.tool_io.specs.Causes.{Rose}
 use Rattle.demux.specs.Told.{Reach, Whole, Wrong, Stop as Stopped, Fault_told, End_told}
 use Rattle.restore_base.specs.declared.collections.Kept.{Kept}
 use Rattle.restore_base.specs.Kept.{taking_of, takings_in}
-use Rattle.restore_base.specs.Taken.{count_of}
+use Rattle.restore_base.specs.Taken.{and_taking, count_of}
 use Rattle.restore_base.specs.declared.collections.Stop.{Stop}
 use Rattle.restore_base.specs.declared.collections.Stop.TheVariants.{NoId, Metadata}
 use Rattle.restore_base.specs.Base.{is_of_collection, base, restored, metadata_stop, stop_at, or_later, first_stop, same_stop}
@@ -163,45 +163,54 @@ one_reason (Metadata n a) None e = cc
 
 -- ---- what a run tells
 
-module _ (c0 c : List Taking) (begins : c0 ≡ []) (fine : first_stop c ≡ None) where
-  kept : (given : List Taking) → c ≡ c0 ++ filter is_of_collection given → c ≡ filter is_of_collection given
-  kept given e = e ∙ ap (λ z. z ++ filter is_of_collection given) begins
+one_added : (b : Bool) (ts us : List Taking) (t : Taking) → cond b (ts ++ t ∷ []) ts ++ us ≡ ts ++ cond b (t ∷ us) us
+one_added true ts us t = append_assoc ts (t ∷ []) us
+one_added false ts us t = refl
 
-  taken : (given : List Taking) → c ≡ c0 ++ filter is_of_collection given → first_stop given ≡ None
+-- what was added are the takings of collections
+added : (ts given : List Taking) → fold and_taking ts given ≡ ts ++ filter is_of_collection given
+added ts [] = sym (append-nil ts)
+added ts (t ∷ given) = added (and_taking ts t) given ∙ one_added (is_of_collection t) ts (filter is_of_collection given) t
+
+module _ (c0 c : List Taking) (begins : c0 ≡ []) (fine : first_stop c ≡ None) where
+  kept : (given : List Taking) → c ≡ fold and_taking c0 given → c ≡ filter is_of_collection given
+  kept given e = e ∙ (added c0 given ∙ ap (λ z. z ++ filter is_of_collection given) begins)
+
+  taken : (given : List Taking) → c ≡ fold and_taking c0 given → first_stop given ≡ None
   taken given e = sym (first_stop-filter given) ∙ (ap first_stop (sym (kept given e)) ∙ fine)
 
-  pub restores_all : (all : List ℕ) → Whole all None is_of_collection (Some c0) (Some c) → RestoresTo all (base c)
+  pub restores_all : (all : List ℕ) → Whole all None and_taking (Some c0) (Some c) → RestoresTo all (base c)
   restores_all all w = (w.given, ends_content all w.given w.ends, taken w.given w.took, ap base (kept w.given w.took))
 
   -- what was given is of the front, and none of it is refused
-  abbrev read_to : (all : List ℕ) (now : Option (List ℕ)) (given : List Taking) → c ≡ c0 ++ filter is_of_collection given → Reach all now given → IsReadTo all now
+  abbrev read_to : (all : List ℕ) (now : Option (List ℕ)) (given : List Taking) → c ≡ fold and_taking c0 given → Reach all now given → IsReadTo all now
   read_to all now given took reach = record { given = given; fine = taken given took; reach = reach }
 
-  pub refuses_all : (all : List ℕ) (now : Option (List ℕ)) (f : FormatFault) → Wrong all now f is_of_collection (Some c0) (Some c) → IsRefused all now (refuses f)
+  pub refuses_all : (all : List ℕ) (now : Option (List ℕ)) (f : FormatFault) → Wrong all now f and_taking (Some c0) (Some c) → IsRefused all now (refuses f)
   refuses_all all now f w = (read_to all now w.whole.given w.whole.took w.reach, w.whole.ends)
 
-  pub stops_all : (all : List ℕ) (now : Option (List ℕ)) (s : Stop) (o : Option Stop) → o ≡ Some s → Stopped all now is_of_collection (Some c0) (Some c) (λ t. same_stop o (stop_at t)) → IsRefused all now (stops s)
+  pub stops_all : (all : List ℕ) (now : Option (List ℕ)) (s : Stop) (o : Option Stop) → o ≡ Some s → Stopped all now and_taking (Some c0) (Some c) (λ t. same_stop o (stop_at t)) → IsRefused all now (stops s)
   stops_all all now s o is w =
       let told : same_stop (Some s) (stop_at w.refused) ≡ true = subst (λ x. same_stop x (stop_at w.refused) ≡ true) is w.told in
       (read_to all now w.given w.took w.reach, (w.refused, w.more, w.fault, w.ends, one_reason s (stop_at w.refused) told))
 
-  pub told_format : (first now : Option (List ℕ)) (f : FormatFault) (why : Taking → Bool) (rose : Type 0) → Fault_told (faults.Format f) first now is_of_collection (Some c0) (Some c) why rose → OnInput first (λ all. IsRefused all now (refuses f))
+  pub told_format : (first now : Option (List ℕ)) (f : FormatFault) (why : Taking → Bool) (rose : Type 0) → Fault_told (faults.Format f) first now and_taking (Some c0) (Some c) why rose → OnInput first (λ all. IsRefused all now (refuses f))
   told_format None now f why rose w = tt
   told_format (Some all) now f why rose w = refuses_all all now f w
 
-  pub told_restored : (first now : Option (List ℕ)) → End_told first now is_of_collection (Some c0) (Some c) → OnInput first (λ all. (now ≡ Some []) × RestoresTo all (base c))
+  pub told_restored : (first now : Option (List ℕ)) → End_told first now and_taking (Some c0) (Some c) → OnInput first (λ all. (now ≡ Some []) × RestoresTo all (base c))
   told_restored None now w = tt
   told_restored (Some all) now w = (w.0, restores_all all w.1)
 
-  pub told_stopped : (first now : Option (List ℕ)) (s : Stop) (o : Option Stop) (rose : Type 0) → o ≡ Some s → Fault_told faults.Stopped first now is_of_collection (Some c0) (Some c) (λ t. same_stop o (stop_at t)) rose → OnInput first (λ all. IsRefused all now (stops s))
+  pub told_stopped : (first now : Option (List ℕ)) (s : Stop) (o : Option Stop) (rose : Type 0) → o ≡ Some s → Fault_told faults.Stopped first now and_taking (Some c0) (Some c) (λ t. same_stop o (stop_at t)) rose → OnInput first (λ all. IsRefused all now (stops s))
   told_stopped None now s o rose is w = tt
   told_stopped (Some all) now s o rose is w = stops_all all now s o is w
 
-  pub told_unsettled : (first now : Option (List ℕ)) (why : Taking → Bool) (rose : Type 0) → Fault_told faults.ReadFault first now is_of_collection (Some c0) (Some c) why rose → OnInput first (λ all. IsUnsettled all now)
+  pub told_unsettled : (first now : Option (List ℕ)) (why : Taking → Bool) (rose : Type 0) → Fault_told faults.ReadFault first now and_taking (Some c0) (Some c) why rose → OnInput first (λ all. IsUnsettled all now)
   told_unsettled None now why rose w = tt
   told_unsettled (Some all) now why rose w = (read_to all now w.part.given w.part.took w.part.reach, w.held, w.left, w.now_left, w.is_rest, w.unsettled)
 
-  pub told_starved : (first now : Option (List ℕ)) (why : Taking → Bool) (rose : Type 0) → Fault_told faults.NoMemory first now is_of_collection (Some c0) (Some c) why rose → OnInput first (λ all. IsReadTo all now)
+  pub told_starved : (first now : Option (List ℕ)) (why : Taking → Bool) (rose : Type 0) → Fault_told faults.NoMemory first now and_taking (Some c0) (Some c) why rose → OnInput first (λ all. IsReadTo all now)
   told_starved None now why rose w = tt
   told_starved (Some all) now why rose w = read_to all now w.part.given w.part.took w.part.reach
 

@@ -172,13 +172,16 @@ impl Collections {
 }
 
 impl DocTaker for Collections {
-    ghost use Rattle.std.specs.Prelude.{Some};
-    ghost use Rattle.restore_base.specs.Base.{is_of_collection, stop_at, same_stop};
-    ghost use Rattle.restore_base.specs.Taken.{takings_of, stops_of, starved_of};
+    ghost use Rattle.std.specs.Prelude.{List, Some};
+    ghost use Rattle.archive_format.specs.Archive.{Taking};
+    ghost use Rattle.restore_base.specs.Base.{stop_at, same_stop};
+    ghost use Rattle.restore_base.specs.Taken.{takings_of, and_taking, stops_of, starved_of};
 
-    ghost keeps = { λ _ t. is_of_collection t };
+    ghost Known = { List Taking };
 
-    ghost kept = { λ c. Some (takings_of c) };
+    ghost adds = { λ _. and_taking };
+
+    ghost known = { λ c. Some (takings_of c) };
 
     ghost stops = { λ c. stops_of c };
 
