@@ -1,10 +1,8 @@
-//! Worked archives, patterns, rings and ends: what no clause of their crates says.
+//! Worked parts of archives, patterns, rings and ends: what no clause of their crates says.
 #![tactic(auto)]
 
 #[cfg(test)]
 mod blocks;
-#[cfg(test)]
-mod demultiplexer;
 #[cfg(test)]
 mod ends;
 #[cfg(test)]
