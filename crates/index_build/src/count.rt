@@ -159,7 +159,9 @@ fn put_number(
     Ok(())
 }
 
-fn count_definitions(
+/// The number of pairs of a key and an `_id` of each index of a collection that has these documents, or the
+/// first fault, as `count_all` has it. The documents stand in the order in which a fault is looked for.
+pub fn count_definitions(
     alloc: Global,
     ns: &NsName,
     defs: &[Tree],

@@ -16,7 +16,7 @@ use std::cmp::Ordering;
 use std::marker::Model;
 
 /// The number of each index of a collection, by name; none where the index isn't built.
-pub(crate) type Numbers = Vec<(Text, Option<u64>)>;
+pub type Numbers = Vec<(Text, Option<u64>)>;
 
 /// How many pairs of a key and an `_id` each index of a state has.
 #[derive(Drop)]
