@@ -1,6 +1,7 @@
 -- What was counted, and which fault was met, document by document.
-use Rattle.std.proofs.Common.{◌≡◌, ℕ, suc, ◌+◌, ◌<◌, List, [], ◌∷◌, ◌++◌, length, map, get_or, take, Bool, true, false, refl, sym, ap, ◌∙◌, subst, arith, length-map, map-append, Option, Some, None}
+use Rattle.std.proofs.Common.{◌≡◌, ℕ, zero, suc, ◌+◌, ◌<◌, List, [], ◌∷◌, ◌++◌, length, map, get_or, take, Bool, true, false, refl, sym, ap, ◌∙◌, subst, arith, Option, Some, None}
 use Rattle.std.specs.Prelude.{option_map, is_some, if◌then◌else◌}
+use Rattle.std.proofs.lemmas.List.{length-map, map-append, map_more}
 use Rattle.bson_value.specs.declared.namespace.NsName.{NsName}
 use Rattle.state_model.specs.Keys.{Key}
 use Rattle.index_keys.specs.declared.plan.Plan.{Plan}
@@ -12,7 +13,10 @@ use Rattle.index_build.specs.declared.owners.Repeats.{Repeats}
 use Rattle.index_build.specs.Faults.{first_parallel, duplicate, duplicate_if, parallel_fault, duplicate_fault, plan_fault, or_else, IsCountFault}
 use Rattle.index_build.specs.Numbers.{pair_count}
 use Rattle.index_build.specs.Owners.{Texts}
-use Rattle.index_build.specs.Repeated.{Follows}
+use Rattle.bson_view.specs.declared.held.Held.{Held}
+use Rattle.bson_view.specs.Held.{held_document}
+use Rattle.index_build.specs.Counting.{held}
+use Rattle.index_build.specs.Repeated.{Follows, Watched, two_at, AreWithin, IsRepeat}
 use Rattle.index_build.proofs.Places.{first_more}
 use Rattle.index_build.proofs.Repeated.{repeat_is}
 
@@ -43,52 +47,65 @@ parallel_told e n i plan ds d is first = by (is_some (parallel plan d)) refl e i
 
 -- ---- at the end
 
--- the lists of keys so far were followed, where the index is unique
-pub record Watched (plan : Plan) (r : Repeats) (ds : List Fields) : Type 0 where
-  pub unique : plan.unique ≡ true → Follows r (map (key_texts plan) ds)
-  pub other : plan.unique ≡ false → r.first ≡ None
-
-abbrev pub at : List Fields → ℕ × ℕ → Fields × Fields
-at ds p = (get_or ds p.0 [], get_or ds p.1 [])
-
-abbrev pub Within : ℕ → Option (ℕ × ℕ) → Type 0
-Within n None = Unit {0}
-Within n (Some p) = (p.0 < n) × (p.1 < n)
-
-pub record AreTold (plan : Plan) (first : Option (ℕ × ℕ)) (ds : List Fields) : Type 0 where
-  pub is : duplicate_if plan.unique plan ds ≡ option_map (at ds) first
-  pub within : Within (length ds) first
-
-pub told : (plan : Plan) (r : Repeats) (ds : List Fields) → Watched plan r ds → AreTold plan r.first ds
+pub told : (plan : Plan) (r : Repeats) (ds : List Fields) → Watched plan r ds → IsRepeat plan r.first ds
 told plan r ds w = by plan.unique refl
   where
-    by : (b : Bool) → plan.unique ≡ b → AreTold plan r.first ds
+    by : (b : Bool) → plan.unique ≡ b → IsRepeat plan r.first ds
     by true u =
         let f = w.unique u in
         let linked = repeat_is (key_texts plan) [] ds in
         record {
-          is = ap (λ (b : Bool). duplicate_if b plan ds) u ∙ (linked.0 ∙ ap (option_map (at ds)) (sym f.first_is));
-          within = subst (Within (length ds)) (sym f.first_is) linked.1;
+          is = ap (λ (b : Bool). duplicate_if b plan ds) u ∙ (linked.0 ∙ ap (option_map (two_at ds)) (sym f.first_is));
+          within = subst (AreWithin (length ds)) (sym f.first_is) linked.1;
         }
     by false u = record {
-      is = ap (λ (b : Bool). duplicate_if b plan ds) u ∙ ap (option_map (at ds)) (sym (w.other u));
-      within = subst (Within (length ds)) (sym (w.other u)) tt;
+      is = ap (λ (b : Bool). duplicate_if b plan ds) u ∙ ap (option_map (two_at ds)) (sym (w.other u));
+      within = subst (AreWithin (length ds)) (sym (w.other u)) tt;
     }
 
-pub none_told : (n : NsName) (i : Key) (plan : Plan) (first : Option (ℕ × ℕ)) (ds : List Fields) → first_parallel plan ds ≡ None → AreTold plan first ds → first ≡ None → plan_fault n i plan ds ≡ None
-none_told n i plan first ds apart t none = λ j. or_else (option_map (parallel_fault n i) (apart j)) (option_map (duplicate_fault n i) ((t.is ∙ ap (option_map (at ds)) none) j))
+pub none_told : (n : NsName) (i : Key) (plan : Plan) (places : Option (ℕ × ℕ)) (ds : List Fields) → first_parallel plan ds ≡ None → IsRepeat plan places ds → places ≡ None → plan_fault n i plan ds ≡ None
+none_told n i plan places ds apart t none = λ j. or_else (option_map (parallel_fault n i) (apart j)) (option_map (duplicate_fault n i) ((t.is ∙ ap (option_map (two_at ds)) none) j))
 
-pub two_told : (n : NsName) (i : Key) (plan : Plan) (first : Option (ℕ × ℕ)) (a b : ℕ) (x y : Fields) (ds : List Fields) → first_parallel plan ds ≡ None → AreTold plan first ds → first ≡ Some (a, b) → get_or ds a [] ≡ x → get_or ds b [] ≡ y →
-    plan_fault n i plan ds ≡ Some (duplicate_fault n i (x, y))
-two_told n i plan first a b x y ds apart t some ex ey =
-    (λ j. or_else (option_map (parallel_fault n i) (apart j)) (option_map (duplicate_fault n i) ((t.is ∙ ap (option_map (at ds)) some) j))) ∙ (λ j. Some (duplicate_fault n i (ex j, ey j)))
+pub two_told : (n : NsName) (i : Key) (plan : Plan) (places : Option (ℕ × ℕ)) (a b : ℕ) (ds : List Fields) → first_parallel plan ds ≡ None → IsRepeat plan places ds → places ≡ Some (a, b) →
+    plan_fault n i plan ds ≡ Some (duplicate_fault n i (two_at ds (a, b)))
+two_told n i plan places a b ds apart t some = λ j. or_else (option_map (parallel_fault n i) (apart j)) (option_map (duplicate_fault n i) ((t.is ∙ ap (option_map (two_at ds)) some) j))
 
-pub within_both : (n a b : ℕ) (first : Option (ℕ × ℕ)) → first ≡ Some (a, b) → Within n first → (a < n) × (b < n)
-within_both n a b first e w = subst (Within n) e w
+-- the fault that is told
+pub is_told : (e f : CountFault) (o : Option CountFault) → e ≡ f → o ≡ Some f → IsCountFault e o
+is_told faults.NoMemory f o e h = tt
+is_told (faults.Parallel n i a) f o e h = h ∙ ap Some (sym e)
+is_told (faults.Duplicate n i a b) f o e h = h ∙ ap Some (sym e)
 
--- the documents that are held, one more
-pub watched_more : (plan : Plan) (r s : Repeats) (ds : List Fields) (d : Fields) → ((plan.unique ≡ true) → (lists : List Texts) → Follows r lists → length ds ≡ length lists → Follows s (lists ++ key_texts plan d ∷ [])) → (plan.unique ≡ false → s.first ≡ r.first) → Watched plan r ds → Watched plan s (ds ++ d ∷ [])
-watched_more plan r s ds d add keep w = record {
-  unique = λ u. subst (Follows s) (sym (map-append (key_texts plan) ds (d ∷ []))) (add u (map (key_texts plan) ds) (w.unique u) (sym (length-map (key_texts plan) ds)));
+pub within_both : (n a b : ℕ) (places : Option (ℕ × ℕ)) → places ≡ Some (a, b) → AreWithin n places → (a < n) × (b < n)
+within_both n a b places e w = subst (AreWithin n) e w
+
+-- one document more
+pub watched_more : (plan : Plan) (r s : Repeats) (ds : List Fields) (ts : Texts) (d : Fields) → ts ≡ key_texts plan d → (plan.unique ≡ true → (lists : List Texts) → Follows r lists → length ds ≡ length lists → Follows s (lists ++ ts ∷ [])) →
+    (plan.unique ≡ false → s.first ≡ r.first) → Watched plan r ds → Watched plan s (ds ++ d ∷ [])
+watched_more plan r s ds ts d is add keep w = record {
+  unique = λ u. subst (Follows s) (ap (λ t. map (key_texts plan) ds ++ t ∷ []) is ∙ sym (map-append (key_texts plan) ds (d ∷ []))) (add u (map (key_texts plan) ds) (w.unique u) (sym (length-map ds (key_texts plan))));
   other = λ u. keep u ∙ w.other u;
 }
+
+-- a document that is held, at its place
+pub held_at : (hs : List Held) (i : ℕ) (h : Held) → i < length hs → h ≡ get_or hs i h → get_or (held hs) i [] ≡ held_document h
+held_at [] i h lt e = absurd (omega arith)
+held_at (x ∷ hs) zero h lt e = ap held_document (sym e)
+held_at (x ∷ hs) (suc i) h lt e = held_at hs i h (omega arith) e
+
+pub held_length : (hs : List Held) → length (held hs) ≡ length hs
+held_length hs = length-map hs held_document
+
+pub held_more : (hs : List Held) (i : ℕ) (h : Held) → i < length hs → h ≡ get_or hs i h → held (take (i + 1) hs) ≡ held (take i hs) ++ held_document h ∷ []
+held_more hs i h lt e = map_more held_document hs i h lt ∙ ap (λ z. held (take i hs) ++ held_document z ∷ []) (sym e)
+
+pub held_before : (hs : List Held) (i : ℕ) → i < length hs → i ≡ length (held (take i hs))
+held_before [] i lt = absurd (omega arith)
+held_before (h ∷ hs) zero lt = refl
+held_before (h ∷ hs) (suc i) lt = ap suc (held_before hs i (omega arith))
+
+-- the fault of the first of some is that of all
+pub first_told : (e : CountFault) (o rest all : Option CountFault) → IsCountFault e o → or_else o rest ≡ all → IsCountFault e all
+first_told faults.NoMemory o rest all h is = tt
+first_told (faults.Parallel n i a) o rest all h is = sym is ∙ ap (λ o. or_else o rest) h
+first_told (faults.Duplicate n i a b) o rest all h is = sym is ∙ ap (λ o. or_else o rest) h

@@ -58,7 +58,10 @@ all_rise : (s : State) (ns : List NsName) → AllRise (each (λ n. (n, numbers_i
 all_rise s [] = tt
 all_rise s (n ∷ ns) = (numbers_rise (map.get s n), all_rise s ns)
 
-over_keys : (s : State) (es : List (NsName × Collection)) → each (λ (e : NsName × Collection). (e.0, numbers_in (map.get s e.0))) es ≡ each (λ n. (n, numbers_in (map.get s n))) (each (λ (e : NsName × Collection). e.0) es)
+abbrev pub counted : State → NsName → NsName × List (Key × Option ℕ)
+counted s n = (n, numbers_in (map.get s n))
+
+over_keys : (s : State) (es : List (NsName × Collection)) → each (λ (e : NsName × Collection). counted s e.0) es ≡ each (counted s) (each (λ (e : NsName × Collection). e.0) es)
 over_keys s [] = refl
 over_keys s (e ∷ es) = ap (λ (l : List (NsName × List (Key × Option ℕ))). (e.0, numbers_in (map.get s e.0)) ∷ l) (over_keys s es)
 
@@ -123,8 +126,21 @@ indexes_ordered es i r = rise_ordered key_cmp key_total key_anti index_name es i
 
 pub space_rises : (es : List (NsName × NumbersVec)) (n : NsName) (e : NsName × NumbersVec) → AllRise (numbers_told es) → Some e ≡ found (at_space n) es → Rise key_cmp index_name e.1.items
 space_rises [] n e a f = cc
-space_rises (x ∷ es) n e a f = by (same_ns x.0 n) f
+space_rises (x ∷ es) n e a f = by (same_ns x.0 n) (λ g. space_rises es n e a.1 g) f
   where
-    by : (b : Bool) → Some e ≡ cond b (Some x) (found (at_space n) es) → Rise key_cmp index_name e.1.items
-    by true g = let is : x ≡ e = cc in subst (λ (z : NsName × NumbersVec). Rise key_cmp index_name z.1.items) is a.0
-    by false g = space_rises es n e a.1 g
+    by : (b : Bool) → (Some e ≡ found (at_space n) es → Rise key_cmp index_name e.1.items) → Some e ≡ cond b (Some x) (found (at_space n) es) → Rise key_cmp index_name e.1.items
+    by true later g = let is : x ≡ e = cc in subst (λ (z : NsName × NumbersVec). Rise key_cmp index_name z.1.items) is a.0
+    by false later g = later g
+
+-- the number under two names
+pub index_some : (es : List (Key × Option ℕ)) (i : Key) (e : Key × Option ℕ) → Some e ≡ found (at_index i) es → e.1 ≡ joined (map.find key_cmp i es)
+index_some es i e f = sym (ap joined (find_index es i ∙ ap (option_map (λ (e : Key × Option ℕ). e.1)) (sym f)))
+
+pub index_none : (es : List (Key × Option ℕ)) (i : Key) → None ≡ found (at_index i) es → None ≡ joined (map.find key_cmp i es)
+index_none es i f = sym (ap joined (find_index es i ∙ ap (option_map (λ (e : Key × Option ℕ). e.1)) (sym f)))
+
+pub space_some : (es : List (NsName × NumbersVec)) (n : NsName) (i : Key) (e : NsName × NumbersVec) → Some e ≡ found (at_space n) es → joined (map.find key_cmp i e.1.items) ≡ number_at (numbers_told es) n i
+space_some es n i e f = sym (ap (number_in i) (find_space es n ∙ ap (option_map items_of) (sym f)))
+
+pub space_none : (es : List (NsName × NumbersVec)) (n : NsName) (i : Key) → None ≡ found (at_space n) es → None ≡ number_at (numbers_told es) n i
+space_none es n i f = sym (ap (number_in i) (find_space es n ∙ ap (option_map items_of) (sym f)))

@@ -5,23 +5,23 @@ use Rattle.index_build.specs.Repeats.{first_where}
 use Rattle.index_build.specs.Faults.{or_else}
 use Rattle.index_build.specs.Owners.{place_where, lesser}
 
+zero_lesser : (o : Option ℕ) → lesser (Some 0) (option_map suc o) ≡ Some 0
+zero_lesser None = refl
+zero_lesser (Some b) = ap Some (omega arith)
+
+lesser_zero : (o : Option ℕ) → lesser (option_map suc o) (Some 0) ≡ Some 0
+lesser_zero None = refl
+lesser_zero (Some a) = ap Some (omega arith)
+
+both_later : (o u : Option ℕ) → lesser (option_map suc o) (option_map suc u) ≡ option_map suc (lesser o u)
+both_later None u = refl
+both_later (Some a) None = refl
+both_later (Some a) (Some b) = ap Some (omega arith)
+
 module _ {A : Type 0} where
   pub no_place : (xs : List A) → place_where (λ x. false) xs ≡ None
   no_place [] = refl
   no_place (x ∷ xs) = ap (option_map suc) (no_place xs)
-
-  zero_lesser : (o : Option ℕ) → lesser (Some 0) (option_map suc o) ≡ Some 0
-  zero_lesser None = refl
-  zero_lesser (Some b) = ap Some (omega arith)
-
-  lesser_zero : (o : Option ℕ) → lesser (option_map suc o) (Some 0) ≡ Some 0
-  lesser_zero None = refl
-  lesser_zero (Some a) = ap Some (omega arith)
-
-  both_later : (o u : Option ℕ) → lesser (option_map suc o) (option_map suc u) ≡ option_map suc (lesser o u)
-  both_later None u = refl
-  both_later (Some a) None = refl
-  both_later (Some a) (Some b) = ap Some (omega arith)
 
   -- the first of either kind is the lesser of both
   pub place_either : (p q : A → Bool) (xs : List A) → lesser (place_where p xs) (place_where q xs) ≡ place_where (λ x. p x || q x) xs
@@ -58,15 +58,15 @@ module _ {A : Type 0} where
 
   pub place_below : (p : A → Bool) (xs : List A) (a : ℕ) → place_where p xs ≡ Some a → a < length xs
   place_below p [] a e = cc
-  place_below p (x ∷ xs) a e = by (p x) e
+  place_below p (x ∷ xs) a e = by (p x) (λ b q. place_below p xs b q) e
     where
-      below : (o : Option ℕ) → place_where p xs ≡ o → option_map suc o ≡ Some a → a < suc (length xs)
-      below None q f = cc
-      below (Some b) q f = let is : suc b ≡ a = cc in let lt = place_below p xs b q in omega arith
+      below : (o : Option ℕ) → place_where p xs ≡ o → ((b : ℕ) → place_where p xs ≡ Some b → b < length xs) → option_map suc o ≡ Some a → a < suc (length xs)
+      below None q later f = cc
+      below (Some b) q later f = let is : suc b ≡ a = cc in let lt = later b q in omega arith
 
-      by : (b : Bool) → (if b then Some 0 else option_map suc (place_where p xs)) ≡ Some a → a < suc (length xs)
-      by true f = let is : 0 ≡ a = cc in omega arith
-      by false f = below (place_where p xs) refl f
+      by : (b : Bool) → ((b : ℕ) → place_where p xs ≡ Some b → b < length xs) → (if b then Some 0 else option_map suc (place_where p xs)) ≡ Some a → a < suc (length xs)
+      by true later f = let is : 0 ≡ a = cc in omega arith
+      by false later f = below (place_where p xs) refl later f
 
   -- the element at the place
   pub first_at_place : (p : A → Bool) (xs : List A) (d : A) → first_where p xs ≡ option_map (λ a. get_or xs a d) (place_where p xs)

@@ -1,5 +1,5 @@
 -- The first list that has a text of an earlier one, found by the owners of texts.
-use Rattle.std.proofs.Common.{◌≡◌, ℕ, suc, ◌+◌, ◌<◌, List, [], ◌∷◌, ◌++◌, length, map, get_or, take, Bool, true, false, cond, refl, sym, ap, ◌∙◌, subst, arith, append_assoc, length-append, length-map, map-append, get_or-append, Option, Some, None, inl, inr}
+use Rattle.std.proofs.Common.{◌≡◌, ℕ, suc, ◌+◌, ◌<◌, List, [], ◌∷◌, ◌++◌, length, map, get_or, take, Bool, true, false, cond, refl, sym, ap, ◌∙◌, subst, arith, append_assoc, length-append, Option, Some, None, inl, inr}
 use Rattle.std.specs.Prelude.{◌||◌, ◌⊎◌, option_map, is_some, if◌then◌else◌}
 use Rattle.std.specs.List.{list_any}
 use Rattle.std.specs.Str.{bytes_eq}
@@ -8,7 +8,8 @@ use Rattle.std.specs.Cmp.{eq_by_cmp_equiv}
 use Rattle.std.specs.Cmp.Lexicographic.{slice_cmp, texts_ties, nat_list_cmp_total}
 use Rattle.std.specs.BTreeMap.{BTreeMap, get, is_at}
 use Rattle.std.proofs.lemmas.Bool.{cases_Bool}
-use Rattle.std.proofs.lemmas.List.{take_more}
+use Rattle.std.proofs.lemmas.List.{take_more, length-map, map-append}
+use Rattle.std.proofs.Math.ListN.{get_or-append}
 use Rattle.std.proofs.Math.Seq.{get_or-append_seam}
 use Rattle.std.proofs.lemmas.List.Folds.{list_any-append}
 use Rattle.state_model.proofs.Keys.{key_is}
@@ -66,11 +67,11 @@ or_true false = refl
 -- a text that both have
 pub both_have : (t : List ℕ) (ts us : Texts) → has t ts ≡ true → has t us ≡ true → meet ts us ≡ true
 both_have t [] us h g = cc
-both_have t (k ∷ ts) us h g = by (cases_Bool (bytes_eq t k))
+both_have t (k ∷ ts) us h g = by (cases_Bool (bytes_eq t k)) (λ f. both_have t ts us f g)
   where
-    by : (bytes_eq t k ≡ true) ⊎ (bytes_eq t k ≡ false) → meet (k ∷ ts) us ≡ true
-    by (inl e) = ap (λ b. b || meet ts us) (subst (λ z. has z us ≡ true) (key_is t k (sym (texts_ties t k) ∙ e)) g)
-    by (inr e) = ap (λ b. has k us || b) (both_have t ts us (sym (ap (λ b. b || has t ts) e) ∙ h) g) ∙ or_true (has k us)
+    by : (bytes_eq t k ≡ true) ⊎ (bytes_eq t k ≡ false) → (has t ts ≡ true → meet ts us ≡ true) → meet (k ∷ ts) us ≡ true
+    by (inl e) later = ap (λ b. b || meet ts us) (subst (λ z. has z us ≡ true) (key_is t k (sym (texts_ties t k) ∙ e)) g)
+    by (inr e) later = ap (λ b. has k us || b) (later (sym (ap (λ b. b || has t ts) e) ∙ h)) ∙ or_true (has k us)
 
 no_some : {A : Type 0} (x : A) → Some x ≡ None → ⊥
 no_some x e = cc
@@ -78,16 +79,19 @@ no_some x e = cc
 -- what no list shares with these texts is in none of the lists
 none_has : (t : List ℕ) (ts : Texts) (lists : List Texts) → has t ts ≡ true → place_where (meet ts) lists ≡ None → place_where (has t) lists ≡ None
 none_has t ts [] h e = refl
-none_has t ts (us ∷ lists) h e = by (cases_Bool (has t us)) (cases_Bool (meet ts us))
+none_has t ts (us ∷ lists) h e = by (cases_Bool (has t us)) (cases_Bool (meet ts us)) (none_has t ts lists h)
   where
     rest : (o : Option ℕ) → option_map suc o ≡ None → o ≡ None
     rest None f = refl
     rest (Some a) f = cc
 
-    by : (has t us ≡ true) ⊎ (has t us ≡ false) → (meet ts us ≡ true) ⊎ (meet ts us ≡ false) → place_where (has t) (us ∷ lists) ≡ None
-    by a (inl m) = absurd (no_some 0 (sym (ap (λ b. if b then Some 0 else option_map suc (place_where (meet ts) lists)) m) ∙ e))
-    by (inl a) (inr m) = let both = both_have t ts us h a in absurd cc
-    by (inr a) (inr m) = rw a (ap (option_map suc) (none_has t ts lists h (rest (place_where (meet ts) lists) (sym (ap (λ b. if b then Some 0 else option_map suc (place_where (meet ts) lists)) m) ∙ e))))
+    clash : (b : Bool) → b ≡ true → b ≡ false → ⊥
+    clash b x y = cc
+
+    by : (has t us ≡ true) ⊎ (has t us ≡ false) → (meet ts us ≡ true) ⊎ (meet ts us ≡ false) → (place_where (meet ts) lists ≡ None → place_where (has t) lists ≡ None) → place_where (has t) (us ∷ lists) ≡ None
+    by a (inl m) later = absurd (no_some 0 (sym (ap (λ b. if b then Some 0 else option_map suc (place_where (meet ts) lists)) m) ∙ e))
+    by (inl a) (inr m) later = absurd (clash (meet ts us) (both_have t ts us h a) m)
+    by (inr a) (inr m) later = rw a (ap (option_map suc) (later (rest (place_where (meet ts) lists) (sym (ap (λ b. if b then Some 0 else option_map suc (place_where (meet ts) lists)) m) ∙ e))))
 
 -- the owners with the texts of one list more
 pub owners_more : (m n : BTreeMap (List ℕ) ℕ) (ts : Texts) (lists : List Texts) (place : ℕ) → place ≡ length lists → AreOwners m lists → place_where (meet ts) lists ≡ None →
@@ -115,9 +119,9 @@ behind_more before [] ts = ap (λ (z : List Texts). later_place (length z) (plac
     nothing [] = refl
     nothing (x ∷ xs) = ap (λ z. x ∷ z) (nothing xs)
 behind_more before (us ∷ lists) ts =
-    let all : (before ++ us ∷ []) ++ lists ≡ before ++ us ∷ lists = append_assoc in
+    let all : (before ++ us ∷ []) ++ lists ≡ before ++ us ∷ lists = append_assoc before (us ∷ []) lists in
     ap (later_place (length before) (place_where (meet us) before)) (behind_more (before ++ us ∷ []) lists ts
-        ∙ ap (λ (z : List Texts). or_else (repeat_place_behind (before ++ us ∷ []) lists) (later_place (length z) (place_where (meet ts) z) None)) all)
+    ∙ ap (λ (z : List Texts). or_else (repeat_place_behind (before ++ us ∷ []) lists) (later_place (length z) (place_where (meet ts) z) None)) all)
     ∙ later_more (length before) (place_where (meet us) before) (repeat_place_behind (before ++ us ∷ []) lists) (later_place (length (before ++ us ∷ lists)) (place_where (meet ts) (before ++ us ∷ lists)) None)
 
 pub repeat_more : (lists : List Texts) (ts : Texts) → repeat_place (lists ++ ts ∷ []) ≡ or_else (repeat_place lists) (later_place (length lists) (place_where (meet ts) lists) None)
@@ -167,38 +171,40 @@ module _ {A : Type 0} (f : A → Texts) (d : A) where
   Within n None = Unit {0}
   Within n (Some p) = (p.0 < n) × (p.1 < n)
 
-  pub repeat_linked : (before xs : List A) →
-      (repeat_behind share before xs ≡ option_map (two_at (before ++ xs)) (repeat_place_behind (map f before) (map f xs))) × Within (length (before ++ xs)) (repeat_place_behind (map f before) (map f xs))
+  -- the places of two are those two, and they stand in the list
+  pub Linked : List A → Option (A × A) → Option (ℕ × ℕ) → Type 0
+  Linked all r p = (r ≡ option_map (two_at all) p) × Within (length all) p
+
+  linked_by : (before xs : List A) (x : A) (r : Option (A × A)) (p : Option (ℕ × ℕ)) (o : Option ℕ) → place_where (share x) before ≡ o → Linked (before ++ x ∷ xs) r p →
+      Linked (before ++ x ∷ xs) (or_later x (first_where (share x) before) r) (later_place (length (map f before)) o p)
+  unfolding Linked
+  linked_by before xs x r p None e h = (ap (λ (o : Option A). or_later x o r) (first_at_place (share x) before d ∙ ap (option_map (λ a. get_or before a d)) e) ∙ h.0, h.1)
+  linked_by before xs x r p (Some a) e h =
+      let lt : a < length before = place_below (share x) before a e in
+      let n : length (map f before) ≡ length before = length-map before f in
+      let whole : length (before ++ x ∷ xs) ≡ length before + length (x ∷ xs) = length-append before (x ∷ xs) in
+      let one : get_or (before ++ x ∷ xs) a d ≡ get_or before a d = get_or-append before (x ∷ xs) d a lt in
+      let two : get_or (before ++ x ∷ xs) (length (map f before)) d ≡ x = ap (λ k. get_or (before ++ x ∷ xs) k d) n ∙ get_or-append_seam before x xs d in (
+        ap (λ (o : Option A). or_later x o r) (first_at_place (share x) before d ∙ ap (option_map (λ a. get_or before a d)) e)
+            ∙ (λ i. Some (sym one i, sym two i)),
+        (omega arith, omega arith),
+      )
+
+  pub repeat_linked : (before xs : List A) → Linked (before ++ xs) (repeat_behind share before xs) (repeat_place_behind (map f before) (map f xs))
+  unfolding Linked
   repeat_linked before [] = (refl, tt)
   repeat_linked before (x ∷ xs) =
-      subst (λ (o : Option ℕ). Linked (or_later x (first_where (share x) before) (repeat_behind share (before ++ x ∷ []) xs)) (later_place (length (map f before)) o (repeat_place_behind (map f before ++ f x ∷ []) (map f xs)))) (sym (place_map f (meet (f x)) before))
-      (by (place_where (share x) before) refl later)
-    where
-      Linked : Option (A × A) → Option (ℕ × ℕ) → Type 0
-      Linked r p = (r ≡ option_map (two_at (before ++ x ∷ xs)) p) × Within (length (before ++ x ∷ xs)) p
-
-      all : (before ++ x ∷ []) ++ xs ≡ before ++ x ∷ xs
-      all = append_assoc
-
-      later : Linked (repeat_behind share (before ++ x ∷ []) xs) (repeat_place_behind (map f before ++ f x ∷ []) (map f xs))
-      unfolding Linked
-      later = subst (λ (z : List Texts). (repeat_behind share (before ++ x ∷ []) xs ≡ option_map (two_at (before ++ x ∷ xs)) (repeat_place_behind z (map f xs))) × Within (length (before ++ x ∷ xs)) (repeat_place_behind z (map f xs))) (map-append f before (x ∷ []))
-          (subst (λ (z : List A). (repeat_behind share (before ++ x ∷ []) xs ≡ option_map (two_at z) (repeat_place_behind (map f (before ++ x ∷ [])) (map f xs))) × Within (length z) (repeat_place_behind (map f (before ++ x ∷ [])) (map f xs))) all (repeat_linked (before ++ x ∷ []) xs))
-
-      by : (o : Option ℕ) → place_where (share x) before ≡ o → Linked (repeat_behind share (before ++ x ∷ []) xs) (repeat_place_behind (map f before ++ f x ∷ []) (map f xs)) →
-          Linked (or_later x (first_where (share x) before) (repeat_behind share (before ++ x ∷ []) xs)) (later_place (length (map f before)) o (repeat_place_behind (map f before ++ f x ∷ []) (map f xs)))
-      unfolding Linked
-      by None e h = (ap (λ (o : Option A). or_later x o (repeat_behind share (before ++ x ∷ []) xs)) (first_at_place (share x) before d ∙ ap (option_map (λ a. get_or before a d)) e) ∙ h.0, h.1)
-      by (Some a) e h =
-          let lt : a < length before = place_below (share x) before a e in
-          let n : length (map f before) ≡ length before = length-map f before in
-          let whole : length (before ++ x ∷ xs) ≡ length before + suc (length xs) = length-append before (x ∷ xs) in
-          let one : get_or (before ++ x ∷ xs) a d ≡ get_or before a d = get_or-append before (x ∷ xs) d a lt in
-          let two : get_or (before ++ x ∷ xs) (length (map f before)) d ≡ x = ap (λ k. get_or (before ++ x ∷ xs) k d) n ∙ get_or-append_seam before x xs d in (
-            ap (λ (o : Option A). or_later x o (repeat_behind share (before ++ x ∷ []) xs)) (first_at_place (share x) before d ∙ ap (option_map (λ a. get_or before a d)) e)
-                ∙ (λ i. Some (sym one i, sym two i)),
-            (omega arith, omega arith),
-          )
+      let all : (before ++ x ∷ []) ++ xs ≡ before ++ x ∷ xs = append_assoc before (x ∷ []) xs in
+      let later = subst (λ (z : List Texts). Linked (before ++ x ∷ xs) (repeat_behind share (before ++ x ∷ []) xs) (repeat_place_behind z (map f xs))) (map-append f before (x ∷ []))
+      (subst (λ (z : List A). Linked z (repeat_behind share (before ++ x ∷ []) xs) (repeat_place_behind (map f (before ++ x ∷ [])) (map f xs))) all (repeat_linked (before ++ x ∷ []) xs)) in
+      subst (λ (o : Option ℕ). Linked (before ++ x ∷ xs) (or_later x (first_where (share x) before) (repeat_behind share (before ++ x ∷ []) xs)) (later_place (length (map f before)) o (repeat_place_behind (map f before ++ f x ∷ []) (map f xs))))
+      (sym (place_map f (meet (f x)) before))
+      (linked_by before xs x _ _ (place_where (share x) before) refl later)
 
   pub repeat_is : (xs : List A) → (repeat share xs ≡ option_map (two_at xs) (repeat_place (map f xs))) × Within (length xs) (repeat_place (map f xs))
+  unfolding Linked
   repeat_is xs = repeat_linked [] xs
+
+pub none_of : {A : Type 0} (o : Option A) → is_some o ≡ false → o ≡ None
+none_of None e = refl
+none_of (Some x) e = cc

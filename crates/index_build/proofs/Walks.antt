@@ -108,7 +108,7 @@ names_of_state s =
 -- ---- a walk that appends what it makes of each
 
 pub one_made : {A B : Type 0} (g : A → B) (done : List B) (x : A) (left : List A) (all : List B) → done ++ each g (x ∷ left) ≡ all → (done ++ g x ∷ []) ++ each g left ≡ all
-one_made g done x left all e = append_assoc ∙ e
+one_made g done x left all e = append_assoc done (g x ∷ []) (each g left) ∙ e
 
 pub all_made : {B : Type 0} (done : List B) → done ++ [] ≡ done
 all_made [] = refl

@@ -1,13 +1,18 @@
 //! How many pairs of a key and an `_id` the indexes of a state have.
-ghost use Rattle.std.specs.Prelude.{◌≡◌, ◌+◌, ◌++◌, ◌∷◌, [], IfOk, IfErr, OnOk, None};
+ghost use Rattle.std.specs.Prelude.{◌≡◌, ◌+◌, ◌<◌, ◌++◌, ◌∷◌, [], List, length, option_map, is_some, IfOk, IfErr, OnOk, None, true, false};
 ghost use Rattle.std.specs.FinMap as map;
+ghost use Rattle.bson_view.specs.Held.{held_document};
 ghost use Rattle.coll_state.specs.Documents.{documents_by_key};
 ghost use Rattle.coll_state.specs.Rows.{state_of};
 ghost use Rattle.coll_state.specs.Stock.{named};
 ghost use Rattle.index_keys.specs.Definition.{plan_of};
-ghost use Rattle.index_build.specs.Faults.{plan_fault, built_fault, definitions_fault, collection_fault, fault, IsCountFault};
+ghost use Rattle.index_keys.specs.Keys.{Fields, parallel};
+ghost use Rattle.index_keys.specs.Texts.{key_texts};
+ghost use Rattle.index_build.specs.Faults.{first_parallel, parallel_fault, duplicate_fault, plan_fault, built_fault, definitions_fault, collection_fault, fault, IsCountFault};
 ghost use Rattle.index_build.specs.Numbers.{pair_count, number, numbers_of, numbers_in, counts};
 ghost use Rattle.index_build.specs.Counting.{held, held_values};
+ghost use Rattle.index_build.specs.Owners.{Texts};
+ghost use Rattle.index_build.specs.Repeated.{Follows, Watched, two_at, IsRepeat};
 
 use crate::counts::{Counts, Numbers};
 use crate::fault::CountFault;
@@ -17,7 +22,7 @@ use bson_value::NsName;
 use bson_view::Held;
 use coll_state::{State, name_of};
 use containers::Text;
-use index_keys::{Plan, Planned};
+use index_keys::{Keys, Plan, Planned};
 use json_tree::Tree;
 use std::alloc::{AllocError, Global};
 
@@ -31,43 +36,113 @@ fn sum(count: u64, more: usize) -> Result<u64, AllocError>
     }
 }
 
+// The keys are watched where the index is unique.
+fn watch(repeats: &mut Repeats, unique: bool, keys: Keys, place: usize) -> Result<(), AllocError>
+    ensures unique { unique ≡ true → (lists : List Texts) → Follows repeats.old lists → place ≡ length lists → OnOk result (Follows repeats.new (lists ++ keys ∷ [])) }
+    ensures other { unique ≡ false → repeats.new.first ≡ repeats.old.first }
+{
+    if unique {
+        return repeats.add(keys, place);
+    }
+    Ok(())
+}
+
+// The count with the keys of one document more, which stands at this place of all.
+fn count_document(
+    alloc: Global,
+    at: Place<'_>,
+    plan: &Plan,
+    doc: Held<'_>,
+    place: usize,
+    count: u64,
+    repeats: &mut Repeats,
+) -> Result<u64, CountFault>
+    ensures count { IfOk result (λ n. n ≡ count + length (key_texts plan.now (held_document doc.entry))) }
+    ensures apart { OnOk result (is_some (parallel plan.now (held_document doc.entry)) ≡ false) }
+    ensures watched { (docs : List Fields) → Watched plan.now repeats.old docs → place ≡ length docs → OnOk result (Watched plan.now repeats.new (docs ++ held_document doc.entry ∷ [])) }
+    ensures fault { IfErr result (λ e. IsCountFault e (option_map (parallel_fault at.entry.ns.now at.entry.index.now) (first_parallel plan.now (held_document doc.entry ∷ [])))) }
+{
+    let keys = match keys_in(alloc, at, plan, doc) {
+        Ok(keys) => keys,
+        Err(e) => return Err(e),
+    };
+    let count = sum(count, keys.len())?;
+    watch(repeats, plan.unique(), keys, place)?;
+    Ok(count)
+}
+
+fn duplicate_at(
+    alloc: Global,
+    at: Place<'_>,
+    docs: &[Held<'_>],
+    first: usize,
+    second: usize,
+) -> Result<CountFault, AllocError>
+    requires first { first < length docs.now }
+    requires second { second < length docs.now }
+    ensures { IfOk result (λ e. e ≡ duplicate_fault at.entry.ns.now at.entry.index.now (two_at (held docs.now) (first, second))) }
+{
+    duplicate(alloc, at, docs[first], docs[second])
+}
+
+// The fault that a key was repeated, where one was.
+fn no_repeat(
+    alloc: Global,
+    at: Place<'_>,
+    plan: &Plan,
+    docs: &[Held<'_>],
+    repeat: Option<(usize, usize)>,
+) -> Result<(), CountFault>
+    requires apart { first_parallel plan.now (held docs.now) ≡ None }
+    requires told { IsRepeat plan.now repeat (held docs.now) }
+    ensures faultless { OnOk result (plan_fault at.entry.ns.now at.entry.index.now plan.now (held docs.now) ≡ None) }
+    ensures fault { IfErr result (λ e. IsCountFault e (plan_fault at.entry.ns.now at.entry.index.now plan.now (held docs.now))) }
+{
+    match repeat {
+        None => Ok(()),
+        Some((first, second)) => Err(duplicate_at(alloc, at, docs, first, second)?),
+    }
+}
+
 fn count_pairs(
     alloc: Global,
-    place: Place<'_>,
+    at: Place<'_>,
     plan: &Plan,
     docs: &[Held<'_>],
 ) -> Result<u64, CountFault>
     ensures count { IfOk result (λ n. n ≡ pair_count plan.now (held docs.now)) }
-    ensures faultless { OnOk result (plan_fault place.entry.ns.now place.entry.index.now plan.now (held docs.now) ≡ None) }
-    ensures fault { IfErr result (λ e. IsCountFault e (plan_fault place.entry.ns.now place.entry.index.now plan.now (held docs.now))) }
+    ensures faultless { OnOk result (plan_fault at.entry.ns.now at.entry.index.now plan.now (held docs.now) ≡ None) }
+    ensures fault { IfErr result (λ e. IsCountFault e (plan_fault at.entry.ns.now at.entry.index.now plan.now (held docs.now))) }
 {
     let mut count = 0;
     let mut repeats = Repeats::new(alloc);
     for (i, doc) in docs.iter().enumerate() {
-        let keys = keys_in(alloc, place, plan, *doc)?;
-        count = sum(count, keys.len())?;
-        if plan.unique() {
-            repeats.add(keys, i)?;
+        match count_document(alloc, at, plan, *doc, i, count, &mut repeats) {
+            Ok(more) => count = more,
+            Err(e) => return Err(e),
         }
     }
-    match repeats.first {
-        Some((first, second)) => Err(duplicate(alloc, place, docs[first], docs[second])?),
-        None => Ok(count),
+    match no_repeat(alloc, at, plan, docs, repeats.first) {
+        Ok(_) => Ok(count),
+        Err(e) => Err(e),
     }
 }
 
 fn count_definition(
     alloc: Global,
-    place: Place<'_>,
+    at: Place<'_>,
     def: &Tree,
     docs: &[Held<'_>],
 ) -> Result<Option<u64>, CountFault>
     ensures number { IfOk result (λ n. n ≡ number def.now (held docs.now)) }
-    ensures faultless { OnOk result (built_fault place.entry.ns.now place.entry.index.now (plan_of def.now) (held docs.now) ≡ None) }
-    ensures fault { IfErr result (λ e. IsCountFault e (built_fault place.entry.ns.now place.entry.index.now (plan_of def.now) (held docs.now))) }
+    ensures faultless { OnOk result (built_fault at.entry.ns.now at.entry.index.now (plan_of def.now) (held docs.now) ≡ None) }
+    ensures fault { IfErr result (λ e. IsCountFault e (built_fault at.entry.ns.now at.entry.index.now (plan_of def.now) (held docs.now))) }
 {
     match Plan::of(alloc, def)? {
-        Planned::Plain(plan) => Ok(Some(count_pairs(alloc, place, &plan, docs)?)),
+        Planned::Plain(plan) => match count_pairs(alloc, at, &plan, docs) {
+            Ok(count) => Ok(Some(count)),
+            Err(e) => Err(e),
+        },
         Planned::Unbuilt => Ok(None),
     }
 }
@@ -84,7 +159,9 @@ fn put_number(
     Ok(())
 }
 
-fn count_definitions(
+/// The number of pairs of a key and an `_id` of each index of a collection that has these documents, or the
+/// first fault, as `count_all` has it. The documents stand in the order in which a fault is looked for.
+pub fn count_definitions(
     alloc: Global,
     ns: &NsName,
     defs: &[Tree],
@@ -98,7 +175,11 @@ fn count_definitions(
     let mut left = defs;
     while let Some((def, rest)) = left.split_first() {
         let index = name_of(def);
-        let number = count_definition(alloc, Place { ns, index }, def, docs)?;
+        let at = Place { ns, index };
+        let number = match count_definition(alloc, at, def, docs) {
+            Ok(number) => number,
+            Err(e) => return Err(e),
+        };
         put_number(alloc, &mut numbers, index, number)?;
         left = rest;
     }
@@ -122,11 +203,13 @@ fn count_collection(alloc: Global, state: &State, ns: &NsName) -> Result<Numbers
     ensures faultless { OnOk result (collection_fault ns.now (map.get (state_of state.now) ns.now) ≡ None) }
     ensures fault { IfErr result (λ e. IsCountFault e (collection_fault ns.now (map.get (state_of state.now) ns.now))) }
 {
-    let Some(defs) = state.indexes(ns) else {
-        return Ok(Vec::new(alloc));
-    };
-    let docs = documents(alloc, state, ns)?;
-    count_definitions(alloc, ns, defs.as_slice(), docs.as_slice())
+    match state.indexes(ns) {
+        None => Ok(Vec::new(alloc)),
+        Some(defs) => {
+            let docs = documents(alloc, state, ns)?;
+            count_definitions(alloc, ns, defs.as_slice(), docs.as_slice())
+        }
+    }
 }
 
 fn put_collection(
@@ -156,7 +239,10 @@ pub fn count_all(alloc: Global, state: &State) -> Result<Counts, CountFault>
     let mut collections = Vec::new(alloc);
     let mut left = state.namespaces();
     while let Some(ns) = left.next() {
-        let numbers = count_collection(alloc, state, ns)?;
+        let numbers = match count_collection(alloc, state, ns) {
+            Ok(numbers) => numbers,
+            Err(e) => return Err(e),
+        };
         put_collection(alloc, &mut collections, ns, numbers)?;
     }
     Ok(Counts::of(collections))

@@ -3,9 +3,12 @@ ghost use Rattle.std.specs.Prelude.{◌≡◌};
 ghost use Rattle.std.specs.Option.{option_copied};
 ghost use Rattle.std.specs.Fn.{ComputesKey};
 ghost use Rattle.std.specs.declared.cmp.Ordering.{Ordering as Order};
+ghost use Rattle.std.specs.FinMap as map;
+ghost use Rattle.state_model.specs.Keys.{key_cmp};
 ghost use Rattle.coll_state.specs.Order.{IsOrdered, found};
-ghost use Rattle.index_build.specs.Numbers.{number_at};
-ghost use Rattle.index_build.specs.Sorted.{numbers_told, AreByName};
+ghost use Rattle.coll_state.specs.Stock.{Rise};
+ghost use Rattle.index_build.specs.Numbers.{joined, number_at};
+ghost use Rattle.index_build.specs.Sorted.{numbers_told, index_name, AreByName};
 
 use bson_value::NsName;
 use containers::Text;
@@ -13,7 +16,7 @@ use std::cmp::Ordering;
 use std::marker::Model;
 
 /// The number of each index of a collection, by name; none where the index isn't built.
-pub(crate) type Numbers = Vec<(Text, Option<u64>)>;
+pub type Numbers = Vec<(Text, Option<u64>)>;
 
 /// How many pairs of a key and an `_id` each index of a state has.
 #[derive(Drop)]
@@ -44,6 +47,16 @@ fn find<T, F: FnMut(&T) -> Ordering>(items: &[T], order: F) -> Option<&T>
     }
 }
 
+// The number of the index of this name.
+fn number_in(numbers: &[(Text, Option<u64>)], index: &str) -> Option<u64>
+    ensures { Rise key_cmp index_name numbers.now → result ≡ joined (map.find key_cmp index.now numbers.now) }
+{
+    match find(numbers, |entry| entry.0.as_str().cmp(index)) {
+        Some(entry) => entry.1,
+        None => None,
+    }
+}
+
 impl Counts {
     pub(crate) fn of(collections: Vec<(NsName, Numbers)>) -> Counts
         requires { AreByName (numbers_told collections.items) }
@@ -56,8 +69,9 @@ impl Counts {
     pub fn get(&self, ns: &NsName, index: &str) -> Option<u64>
         ensures { result ≡ number_at self.now ns.now index.now }
     {
-        let collection = find(self.collections.as_slice(), |entry| entry.0.cmp(ns))?;
-        let entry = find(collection.1.as_slice(), |entry| entry.0.as_str().cmp(index))?;
-        entry.1
+        match find(self.collections.as_slice(), |entry| entry.0.cmp(ns)) {
+            Some(collection) => number_in(collection.1.as_slice(), index),
+            None => None,
+        }
     }
 }

@@ -7,6 +7,6 @@ mod fault;
 mod owners;
 mod place;
 
-pub use count::count_all;
-pub use counts::Counts;
+pub use count::{count_all, count_definitions};
+pub use counts::{Counts, Numbers};
 pub use fault::CountFault;

@@ -1,0 +1,6 @@
+use Rattle.std.proofs.Common.{◌≡◌, ◌++◌, length}
+use Rattle.index_build.specs.Counting.{held_values}
+use Rattle.index_build.proofs.count.documents.Given as goal
+
+abbrev pub invariant-loop-document : goal.invariant-loop-document
+invariant-loop-document l = held_values l.documents.items ++ l.left ≡ l.initial.left
