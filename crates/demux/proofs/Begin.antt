@@ -25,14 +25,14 @@ pub turned : {K : Type 0} (r : Result (Option ℕ) DemuxFault) (first before_lef
     → adds_now ≡ adds → (Stands first before_left s at held adds_now before old → Turns r first now t after adds_now before new why rose) → Stands first before_left s at held adds before old → Turns r first now t after adds before new why rose
 turned r first before_left now s t at held after adds adds_now why before old new rose e f h = subst (λ k. Turns r first now t after k before new why rose) e (f (subst (λ k. Stands first before_left s at held k before old) (sym e) h))
 
-pub addss_same : (x : Option (List ℕ)) → Keeps x x
-addss_same None = tt
-addss_same (Some xs) = refl
+pub keeps_same : (x : Option (List ℕ)) → Keeps x x
+keeps_same None = tt
+keeps_same (Some xs) = refl
 
-pub addss_none_taken : (x y : Option (List ℕ)) → Consumes x y [] → Keeps x y
-addss_none_taken None y c = tt
-addss_none_taken (Some xs) None c = c
-addss_none_taken (Some xs) (Some ys) c = sym c
+pub keeps_none_taken : (x y : Option (List ℕ)) → Consumes x y [] → Keeps x y
+keeps_none_taken None y c = tt
+keeps_none_taken (Some xs) None c = c
+keeps_none_taken (Some xs) (Some ys) c = sym c
 
 -- an item that asks for memory stands behind a clean front of the input
 pub cut_asks : (s : Stage) (k : ℕ) (held left : List ℕ) → AsksFirst s (take k held) → AsksFirst s (held ++ left)

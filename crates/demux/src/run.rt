@@ -65,19 +65,20 @@ fn within(held: &[u8], room: u64) -> &[u8]
     }
 }
 
-// No item is held whole: bytes are read behind what is held. The place where it goes on; none at the end.
-fn more<S: Source>(
+// No item is held whole: bytes are read behind what is held. The place where it goes on; none at the end. The taker isn't called.
+fn more<S: Source, T: DocTaker>(
     window: &mut Window,
     progress: &mut Progress,
     at: u64,
     source: &mut S,
+    _taker: &T,
 ) -> Result<Option<u64>, DemuxFault>
     requires within { at ≤ limit }
     requires size { window.old.size ≡ 16793600 }
     requires room { length window.old.bytes ≤ 16793600 }
     requires short { next (stage_of progress.old) at (take (limit - at) window.old.bytes) ≡ short }
     ensures room { OnOk result (length window.new.bytes ≤ 16793600) }
-    ensures turns { (first : Option (List ℕ)) (K : Type 0) (adds : K → Taking → K) (why : Taking → Bool) (before known : Option K) → Stands first (S.end source.old).bytes (stage_of progress.old) at window.old.bytes adds before known
+    ensures turns { (first : Option (List ℕ)) (adds : T.Known → Taking → T.Known) (why : Taking → Bool) (before known : Option T.Known) → Stands first (S.end source.old).bytes (stage_of progress.old) at window.old.bytes adds before known
         → Turns result first (S.end source.new).bytes (stage_of progress.new) window.new.bytes adds before known why ⊥ }
     ensures size { window.new.size ≡ window.old.size }
     ensures on { IfOk result (λ r. IfSome r (λ b. (b ≡ at) × (length window.old.bytes < length window.new.bytes))) }
@@ -130,7 +131,7 @@ fn turn<S: Source, T: DocTaker>(
             window.skip(size);
             Ok(Some(at + size as u64))
         }
-        Ok(None) => more(window, progress, at, source),
+        Ok(None) => more(window, progress, at, source, taker),
     }
 }
 
