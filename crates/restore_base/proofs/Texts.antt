@@ -1,5 +1,5 @@
 -- The texts of the listing's parts.
-use Rattle.std.proofs.Common.{◌≡◌, ℕ, List, [], ◌∷◌, ◌++◌, length, map, refl, sym, ap, ◌∙◌}
+use Rattle.std.proofs.Common.{◌≡◌, ℕ, List, [], ◌∷◌, ◌++◌, length, map, refl, sym, ap, ◌∙◌, append_assoc}
 use Rattle.std.specs.Prelude.{Vec, Option}
 use Rattle.std.specs.List.{flat_map}
 use Rattle.std.specs.Borrow.{Bor}
@@ -36,4 +36,5 @@ collection_text_is form n c count numbers e is =
     let docs = map (λ e. e.1) c.documents in
     ap (λ k. head_text n.db n.coll k c.options ++ indexes_text docs c.definitions ++ flat_map (document_line form) docs) (length-map c.documents (λ e. e.1) ∙ sym e)
     ∙ (ap (λ z. head_text n.db n.coll count c.options ++ z ++ flat_map (document_line form) docs) (sym (index_lines_are docs c.definitions) ∙ ap (λ ns. index_lines ns c.definitions) (sym is))
-    ∙ ap (λ z. head_text n.db n.coll count c.options ++ index_lines numbers c.definitions ++ z) (flat_map-map (document_line form) (λ e. e.1) c.documents))
+    ∙ (ap (λ z. head_text n.db n.coll count c.options ++ index_lines numbers c.definitions ++ z) (flat_map-map (document_line form) (λ e. e.1) c.documents)
+    ∙ append_assoc (head_text n.db n.coll count c.options) (index_lines numbers c.definitions) (flat_map (λ e. document_line form e.1) c.documents)))

@@ -22,7 +22,7 @@ abbrev pub documents_in : DocumentMap → Documents
 documents_in m = map document_entry m.entries
 
 abbrev pub contents_in : Held → Contents
-contents_in c = record { options = c.options; definitions = c.definitions; documents = documents_in c.documents }
+contents_in c = record { options = c.options; definitions = c.definitions.items; documents = documents_in c.documents }
 
 abbrev pub named : Bor (List ℕ) × Bor (List ℕ) → NsName
 named k = record { db = k.0.now; coll = k.1.now }

@@ -74,8 +74,10 @@ pub fn count(alloc: Global, gathered: &Gathered<'_>) -> Result<Vec<Numbers>, Cou
 {
     let mut numbers = Vec::new(alloc);
     'collections: for (name, held) in gathered {
-        let counted = count_collection(alloc, name, held)?;
-        keep(&mut numbers, counted)?;
+        match count_collection(alloc, name, held) {
+            Ok(counted) => keep(&mut numbers, counted)?,
+            Err(fault) => return Err(fault),
+        }
     }
     Ok(numbers)
 }
