@@ -3,3 +3,4 @@ pub mod Repeated
 pub mod Counted
 pub mod Names
 pub mod Walks
+pub mod Owned

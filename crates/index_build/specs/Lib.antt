@@ -6,3 +6,5 @@ pub mod Owners
 pub mod Repeated
 pub mod Counting
 pub mod Sorted
+pub mod Owned
+pub mod Entries

@@ -3,10 +3,18 @@
 
 mod count;
 mod counts;
+mod entries;
+mod entry;
 mod fault;
+mod index;
+mod index_fault;
 mod owners;
 mod place;
+mod swap;
 
 pub use count::{count_all, count_definitions};
 pub use counts::{Counts, Numbers};
 pub use fault::CountFault;
+pub use index::Index;
+pub use index_fault::IndexFault;
+pub use swap::Swap;
