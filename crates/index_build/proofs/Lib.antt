@@ -4,3 +4,6 @@ pub mod Counted
 pub mod Names
 pub mod Walks
 pub mod Owned
+pub mod Told
+pub mod Built
+pub mod Apart

@@ -8,3 +8,4 @@ pub mod Counting
 pub mod Sorted
 pub mod Owned
 pub mod Entries
+pub mod Laws
