@@ -3,3 +3,7 @@ pub mod Repeated
 pub mod Counted
 pub mod Names
 pub mod Walks
+pub mod Owned
+pub mod Told
+pub mod Built
+pub mod Apart

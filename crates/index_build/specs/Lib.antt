@@ -6,3 +6,6 @@ pub mod Owners
 pub mod Repeated
 pub mod Counting
 pub mod Sorted
+pub mod Owned
+pub mod Entries
+pub mod Laws

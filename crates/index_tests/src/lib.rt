@@ -7,3 +7,5 @@ mod counts;
 mod definitions;
 #[cfg(test)]
 mod documents;
+#[cfg(test)]
+mod indexes;
