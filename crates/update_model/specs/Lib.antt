@@ -1,0 +1,3 @@
+pub mod Conflicts
+pub mod Arguments
+pub mod Reading
