@@ -1,0 +1,3 @@
+pub mod TextOrder
+pub mod Behind
+pub mod Clashes

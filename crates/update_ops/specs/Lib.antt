@@ -1,0 +1,4 @@
+pub mod Prefixes
+pub mod Keys
+pub mod Behind
+pub mod Appended

@@ -1,0 +1,11 @@
+//! Updates of documents by operators.
+#![tactic(auto)]
+
+mod arguments;
+mod names;
+mod ops;
+mod prefixes;
+mod reader;
+
+pub use ops::Ops;
+pub use update_model::{ArrayEnd, Number, Operator, OperatorName, OpsFault};
