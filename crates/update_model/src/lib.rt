@@ -2,7 +2,11 @@
 #![tactic(auto)]
 
 mod fault;
+mod mark;
 mod operator;
+mod updated;
 
 pub use fault::{OpsFault, UpdateFault};
+pub use mark::{Made, Mark};
 pub use operator::{ArrayEnd, Number, Operator, OperatorName};
+pub use updated::Updated;
