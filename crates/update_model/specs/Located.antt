@@ -38,27 +38,23 @@ within p (There ws l c) = There (p ∷ ws) l c
 within p (Missing ws l n ks) = Missing (p ∷ ws) l n ks
 within p Blocked = Blocked
 
-abbrev pub located_under : (Value → Located) → Path → Value → Part → Option Value → Located
-located_under go ks v p None = Missing [] p (size v) ks
-located_under go ks v p (Some c) = within p (go c)
+-- where the other names lead from the value under a part
+abbrev pub further : Path → (Value → Located) → Part → Value → Located
+further [] go p c = There [] p c
+further (k ∷ ks) go p c = within p (go c)
 
-abbrev pub located_at : (Value → Located) → Path → Value → Option Part → Located
+abbrev pub located_under : (Part → Value → Located) → Path → Value → Part → Option Value → Located
+located_under go ks v p None = Missing [] p (size v) ks
+located_under go ks v p (Some c) = go p c
+
+abbrev pub located_at : (Part → Value → Located) → Path → Value → Option Part → Located
 located_at go ks v None = Blocked
 located_at go ks v (Some p) = located_under go ks v p (child v (key_of p))
-
-abbrev pub last_under : Value → Part → Option Value → Located
-last_under v p None = Missing [] p (size v) []
-last_under v p (Some c) = There [] p c
-
-abbrev pub last_at : Value → Option Part → Located
-last_at v None = Blocked
-last_at v (Some p) = last_under v p (child v (key_of p))
 
 -- where a path leads from a value on
 abbrev pub located : Path → Value → Located
 located [] v = Blocked
-located (k ∷ []) v = last_at v (part_at k v)
-located (k ∷ (j ∷ ks)) v = located_at (located (j ∷ ks)) (j ∷ ks) v (part_at k v)
+located (k ∷ ks) v = located_at (further ks (located ks)) ks v (part_at k v)
 
 -- the value behind the names, in documents of one field each
 abbrev pub build : Path → Value → Value

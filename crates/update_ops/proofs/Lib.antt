@@ -1,3 +1,5 @@
 pub mod TextOrder
 pub mod Behind
 pub mod Clashes
+pub mod Leads
+pub mod Elements

@@ -2,6 +2,8 @@
 #![tactic(auto)]
 
 mod arguments;
+mod draft;
+mod locating;
 mod names;
 mod ops;
 mod prefixes;
