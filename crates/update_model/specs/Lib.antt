@@ -8,3 +8,4 @@ pub mod Steps
 pub mod Acts
 pub mod Touched
 pub mod Updating
+pub mod Laws
