@@ -3,3 +3,4 @@ pub mod Behind
 pub mod Clashes
 pub mod Leads
 pub mod Elements
+pub mod News

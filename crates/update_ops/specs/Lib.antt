@@ -4,3 +4,4 @@ pub mod Behind
 pub mod Appended
 pub mod Found
 pub mod Drafts
+pub mod Operations

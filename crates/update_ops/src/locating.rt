@@ -9,6 +9,7 @@ use doc_path::{Part, Path, small_index};
 use std::alloc::{AllocError, Global};
 
 /// What stands at a path.
+#[derive(Drop)]
 pub enum Found<'d, 'p> {
     /// This value, under the part behind the way.
     There(Part, &'d Value),
@@ -91,14 +92,15 @@ fn locate_element<'d, 'p>(
     }
 }
 
-/// Where the path leads. The parts on the way are put behind those of `way`.
+/// Where the path leads. The parts on the way are put into `way`.
 pub fn locate<'d, 'p>(
     alloc: Global,
     doc: &'d Doc,
     path: &'p Path,
     way: &mut List<Part>,
 ) -> Result<Found<'d, 'p>, AllocError>
-    ensures { IfOk result (λ f. located_as way.new f ≡ behind way.old (located path.now (object_of doc.now))) }
+    requires { way.old ≡ [] }
+    ensures { IfOk result (λ f. located path.now (object_of doc.now) ≡ located_as way.new f) }
 {
     match path.names().as_slice().split_first() {
         None => Ok(Found::Blocked),
