@@ -126,10 +126,14 @@ push news (There ws p c) v = pushed_in news ws p (out-Value c) v
 push news (Missing ws p n ks) v = made_at ws p n ks (Array (news [])) v
 push news Blocked v = Refused faults.NotViable
 
+-- without the last element, behind so many others
+abbrev pub shortened : List Part → Part → ℕ → Value → Act
+shortened ws p n v = if nat_lt n limit then Steps (cut ws p n v) else Oversized
+
 abbrev pub popped : ArrayEnd → List Part → Part → List Value → Value → Act
 popped end ws p [] v = Steps []
 popped ends.First ws p (i ∷ is) v = Steps (replaced ws p (Array is) v)
-popped ends.Last ws p (i ∷ is) v = if nat_lt limit (length (i ∷ is)) then Oversized else Steps (cut ws p (length is) v)
+popped ends.Last ws p (i ∷ is) v = shortened ws p (length is) v
 
 abbrev pub popped_in : ArrayEnd → List Part → Part → Value-F Value → Value → Act
 popped_in end ws p (Value-F.Array is) v = popped end ws p is v
