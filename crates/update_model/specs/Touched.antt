@@ -49,22 +49,25 @@ is_fresh made.Fresh = true
 is_fresh made.Changed = false
 is_fresh made.Cut = false
 
-abbrev pub set_to : Mark → Value → Touch
-set_to m a = Set (parts_of m) a (is_fresh m.made)
+-- the length of an array that was cut
+abbrev pub length_in : Value-F Value → Option ℕ
+length_in (Value-F.Array vs) = if nat_lt (length vs) limit then Some (length vs) else None
+length_in _ = None
 
--- an array that was cut, by its length
-abbrev pub cut_to : Mark → Value → Value-F Value → Touch
-cut_to m a (Value-F.Array vs) = if nat_lt (length vs) limit then Resize (parts_of m) (length vs) else set_to m a
-cut_to m a _ = set_to m a
+abbrev pub cut_to_length : Made → Value → Option ℕ
+cut_to_length made.Cut a = length_in (out-Value a)
+cut_to_length _ a = None
 
-abbrev pub touch_by : Mark → Made → Option Value → Touch
-touch_by m k None = Unset (parts_of m)
-touch_by m made.Cut (Some a) = cut_to m a (out-Value a)
-touch_by m made.Fresh (Some a) = set_to m a
-touch_by m made.Changed (Some a) = set_to m a
+abbrev pub set_or_cut : Mark → Value → Option ℕ → Touch
+set_or_cut m a (Some n) = Resize (parts_of m) n
+set_or_cut m a None = Set (parts_of m) a (is_fresh m.made)
+
+abbrev pub touch_by : Mark → Option Value → Touch
+touch_by m None = Unset (parts_of m)
+touch_by m (Some a) = set_or_cut m a (cut_to_length m.made a)
 
 abbrev pub touch_of : Value → Mark → Touch
-touch_of z m = touch_by m m.made (value_in (parts_of m) z)
+touch_of z m = touch_by m (value_in (parts_of m) z)
 
 -- z is the document after the update
 abbrev pub touches : Value → List Mark → List Touch

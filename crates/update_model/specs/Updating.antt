@@ -1,5 +1,5 @@
 -- The document after an update and its touches, or the first refusal.
-use Rattle.std.specs.Prelude.{◌≡◌, ℕ, List, [], ◌∷◌, ◌++◌, length, Bool, true, false, nat_lt, if◌then◌else◌, Result, Ok, Err}
+use Rattle.std.specs.Prelude.{◌≡◌, ℕ, List, [], ◌∷◌, ◌++◌, length, Bool, true, false, nat_lt, if◌then◌else◌, Option, Some, None, Result, Ok, Err}
 use Rattle.bson_value.specs.declared.value.Value.{Value, Value-F, Object, out-Value}
 use Rattle.bson_value.specs.Levels.{levels_of}
 use Rattle.bson_value.specs.Spelling.{document_text}
@@ -28,13 +28,17 @@ level_limit = 100
 abbrev pub Outcome : Type 0
 Outcome = Result Trace UpdateFault
 
--- whether the last document may stand; is_large says that an array was oversized
-abbrev pub ended : Bool → Fields → Outcome
-ended is_large doc =
-    if is_large then Err faults.TooLong
-    else if nat_lt byte_limit (length (document_text doc)) then Err faults.TooLong
-    else if nat_lt level_limit (levels_of doc) then Err faults.Deep
-    else Ok []
+-- what refuses the last document; is_large says that an array was oversized
+abbrev pub refusal_at_end : Bool → Fields → Option UpdateFault
+refusal_at_end is_large doc =
+    if is_large then Some faults.TooLong
+    else if nat_lt byte_limit (length (document_text doc)) then Some faults.TooLong
+    else if nat_lt level_limit (levels_of doc) then Some faults.Deep
+    else None
+
+abbrev pub ended : Option UpdateFault → Outcome
+ended None = Ok []
+ended (Some f) = Err f
 
 abbrev pub and_more : Trace → Outcome → Outcome
 and_more ss (Ok ts) = Ok (ss ++ ts)
@@ -47,7 +51,7 @@ on_act go is_large v Oversized = go true v
 
 -- the operators one after the other, each on the document that those before it left. An oversized array is left out: no later operator sees it
 abbrev pub outcome : List Operator → Bool → Value → Outcome
-outcome [] is_large v = ended is_large (fields_of v)
+outcome [] is_large v = ended (refusal_at_end is_large (fields_of v))
 outcome (o ∷ os) is_large v = on_act (outcome os) is_large v (act o v)
 
 abbrev pub updated_by : Value → Outcome → Result Updated UpdateFault

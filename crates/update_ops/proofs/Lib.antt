@@ -4,3 +4,6 @@ pub mod Clashes
 pub mod Leads
 pub mod Elements
 pub mod News
+pub mod Zeros
+pub mod Touches
+pub mod ShortLevels

@@ -1,6 +1,6 @@
 -- The order of texts finds those that begin with one another.
 use Rattle.std.proofs.Common.{◌≡◌, ◌≢◌, ℕ, ◌<◌, ◌≤◌, List, [], ◌∷◌, ◌++◌, Bool, true, false, refl, sym, ap, ◌∙◌, subst, arith, inl, inr, length, take}
-use Rattle.std.specs.Prelude.{◌||◌, ◌&&◌, ◌⊎◌, not, nat_lt, nat_eq, ◌==◌, if◌then◌else◌}
+use Rattle.std.specs.Prelude.{◌||◌, ◌&&◌, ◌⊎◌, not, nat_lt, nat_eq, ◌==◌, cond, if◌then◌else◌}
 use Rattle.std.specs.declared.cmp.Ordering.{Ordering}
 use Rattle.std.specs.declared.cmp.Ordering.TheVariants.{Less, Equal, Greater}
 use Rattle.std.specs.Ordering.{is_gt, is_lt, is_eq, ordering_then, nat_cmp, match_ordering}
@@ -17,7 +17,9 @@ use Rattle.std.proofs.lemmas.Bool.{cases_Bool, and_parts}
 use Rattle.std.proofs.lemmas.Grind.{common_steps}
 use Rattle.std.proofs.lemmas.Slice.Eq.{bytes_eq-Decides}
 use Rattle.std.proofs.lemmas.Map.Text.{is_eq-slice_cmp}
-use Rattle.update_ops.specs.Prefixes.{Text, starts, clash, has, IsPrefixFree}
+use Rattle.update_ops.specs.Prefixes.{Text, starts, clash, has, has_front, IsBehind, IsPrefixFree}
+use Rattle.std.specs.Set.{remove_key}
+use Rattle.std.proofs.lemmas.Map.Made.{length-remove_key}
 
 -- ---- one byte and what is behind it
 
@@ -220,3 +222,66 @@ front_by set s x r t free e k =
 
 pub no_front_by : (set : BTreeSet Text) (s : Text) (r : List Text) → r ≡ [] → RangeUpTo set s r → false ≡ list_any (λ u. starts u s) set.keys
 no_front_by set s r e k = none_in_front set.keys s (λ u l. sym (contains_has set.keys u) ∙ k.5 e u (tt, l))
+
+-- ---- fronts of fronts
+
+pub starts_trans : (s t u : Text) → starts s t ≡ true → starts t u ≡ true → starts s u ≡ true
+starts_trans [] t u a b = refl
+starts_trans (x ∷ s) [] u a b = cc
+starts_trans (x ∷ s) (y ∷ t) [] a b = cc
+starts_trans (x ∷ s) (y ∷ t) (z ∷ u) a b =
+    let h = and_parts (x == y) (starts s t) a in
+    let k = and_parts (y == z) (starts t u) b in
+    rw (is_test x z (test_is x y h.0 ∙ test_is y z k.0), starts_trans s t u h.1 k.1) refl
+
+-- what has a front among the texts adds nothing to what they are fronts of
+pub front_adds_none : (ts : List Text) (s t : Text) → has_front ts s ≡ true → has_front ts t ≡ starts s t || has_front ts t
+front_adds_none ts s t h =
+    elim (cases_Bool (starts s t)) [
+      | inl c ↦ (let r = any_has (λ u. starts u s) ts h in
+          let f : has_front ts t ≡ true = has_any (λ u. starts u t) ts r.0 r.1 (starts_trans r.0 s t r.2 c) in rw (c, f) refl)
+      | inr c ↦ rw c refl
+    ]
+
+-- ---- a text less
+
+abbrev removed : List Text → Text → List Text
+removed ts s = remove_key (is_at (slice_cmp nat_cmp s)) ts
+
+pub any_removed : (p : Text → Bool) (ts : List Text) (s : Text) → has ts s ≡ true → list_any p ts ≡ p s || list_any p (removed ts s)
+any_removed p [] s h = cc
+any_removed p (t ∷ ts) s h = by (is_eq (slice_cmp nat_cmp s t)) (is_eq-slice_cmp s t) (any_removed p ts s)
+  where
+    by : (b : Bool) → b ≡ bytes_eq s t → (has ts s ≡ true → list_any p ts ≡ p s || list_any p (removed ts s)) →
+        p t || list_any p ts ≡ p s || list_any p (cond b ts (t ∷ removed ts s))
+    by true e ih = let f : p s ≡ p t = ap p ((bytes_eq-Decides s t).0 (sym e)) in grind arith
+    by false e ih = let f : has ts s ≡ true = rw (sym e) at h in let g = ih f in grind arith
+
+pub fewer_removed : (p : Text → Bool) (ts : List Text) (s : Text) → has ts s ≡ true → list_any p ts ≡ false → list_any p (removed ts s) ≡ false
+fewer_removed p ts s h e = let f = sym (any_removed p ts s h) ∙ e in grind arith
+
+pub free_removed : (ts : List Text) (s : Text) → has ts s ≡ true → IsPrefixFree ts → IsPrefixFree (removed ts s)
+free_removed ts s h free a b ha hb e = free a b (more a ha) (more b hb) e
+  where
+    more : (t : Text) → has (removed ts s) t ≡ true → has ts t ≡ true
+    more t k = any_removed (bytes_eq t) ts s h ∙ (let f : bytes_eq t s || true ≡ true = grind arith in rw k f)
+
+-- a text that begins with s is taken out
+pub front_removed : (ts : List Text) (s next t : Text) → IsBehind s next ts → starts s t || has_front (removed ts next) t ≡ starts s t || has_front ts t
+front_removed ts s next t h =
+    let e = any_removed (λ u. starts u t) ts next h.0 in
+    elim (cases_Bool (starts next t)) [
+      | inl c ↦ (let f : starts s t ≡ true = starts_trans s next t h.1 c in rw f refl)
+      | inr c ↦ (let g : has_front ts t ≡ has_front (removed ts next) t = e ∙ rw c refl in rw g refl)
+    ]
+
+pub shorter : (ts : List Text) (s : Text) → has ts s ≡ true → length (removed ts s) < length ts
+shorter ts s h = let e = length-remove_key (is_at (slice_cmp nat_cmp s)) ts (contains_has ts s ∙ h) in omega arith
+
+pub first_has : (set : BTreeSet Text) (s x : Text) (r t : List Text) → r ≡ x ∷ t → RangeFrom set s r → has set.keys x ≡ true
+first_has set s x r t e k =
+    let first : IsKeyInRange order (Included s) Unbounded set x = subst (λ (l : List Text). IfSome (slice_get l 0) (IsKeyInRange order (Included s) Unbounded set)) e k.1 in
+    sym (contains_has set.keys x) ∙ first.1
+
+pub no_clash : (ts : List Text) (s : Text) → list_any (starts s) ts ≡ false → has_front ts s ≡ false → list_any (clash s) ts ≡ false
+no_clash ts s a b = any_clash ts s ∙ rw (a, b) refl

@@ -5,3 +5,5 @@ pub mod Appended
 pub mod Found
 pub mod Drafts
 pub mod Operations
+pub mod PlaceKeys
+pub mod Ends

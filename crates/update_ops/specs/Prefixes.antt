@@ -22,3 +22,11 @@ has ts s = list_any (bytes_eq s) ts
 -- none of the texts begins with another one
 abbrev pub IsPrefixFree : List Text → Type 0
 IsPrefixFree ts = (s t : Text) → has ts s ≡ true → has ts t ≡ true → starts s t ≡ true → s ≡ t
+
+-- whether one of the texts is a front of this one
+abbrev pub has_front : List Text → Text → Bool
+has_front ts t = list_any (λ s. starts s t) ts
+
+-- the second text is one of these and begins with the first
+abbrev pub IsBehind : Text → Text → List Text → Type 0
+IsBehind s t ts = (has ts t ≡ true) × (starts s t ≡ true)
