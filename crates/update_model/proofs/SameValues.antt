@@ -161,10 +161,10 @@ same-roll x b = ap (λ (t : Test). t b) (fold-roll-Value Test same_step x)
 tells_step : (x : Value-F Value) (y : Value-F Told) → values_at y ≡ x → Tells (roll-Value x)
 tells_step x y is = (
   (λ b e.
-    let f : same_level (tests_at y) (out-Value b) ≡ true = ap (λ (z : Value-F Test). same_level z (out-Value b)) (sym (folded y)) ∙ (ap (λ (z : Value-F Value). same_level (map-Value Value Test same z) (out-Value b)) is ∙ (sym (same-roll x b) ∙ e)) in
-    ap roll-Value (sym is ∙ level y (out-Value b) f) ∙ roll-out-Value b),
+      let f : same_level (tests_at y) (out-Value b) ≡ true = ap (λ (z : Value-F Test). same_level z (out-Value b)) (sym (folded y)) ∙ (ap (λ (z : Value-F Value). same_level (map-Value Value Test same z) (out-Value b)) is ∙ (sym (same-roll x b) ∙ e)) in
+      ap roll-Value (sym is ∙ level y (out-Value b) f) ∙ roll-out-Value b),
   same-roll x (roll-Value x) ∙ (ap (same_level (map-Value Value Test same x)) (out-roll-Value x)
-    ∙ subst (λ (z : Value-F Value). same_level (map-Value Value Test same z) z ≡ true) is (ap (λ (z : Value-F Test). same_level z (values_at y)) (folded y) ∙ own_level y)),
+      ∙ subst (λ (z : Value-F Value). same_level (map-Value Value Test same z) z ≡ true) is (ap (λ (z : Value-F Test). same_level z (values_at y)) (folded y) ∙ own_level y)),
 )
 
 tells : (a : Value) → Tells a

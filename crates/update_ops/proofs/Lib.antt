@@ -7,3 +7,4 @@ pub mod News
 pub mod Zeros
 pub mod Touches
 pub mod ShortLevels
+pub mod Progress

@@ -96,7 +96,13 @@ impl Draft {
     }
 
     // A value in the place of the one that is there, unless they are equal.
-    fn change(&mut self, way: List<Part>, last: Part, is_same: bool, value: Value) -> Result<(), AllocError>
+    fn change(
+        &mut self,
+        way: List<Part>,
+        last: Part,
+        is_same: bool,
+        value: Value,
+    ) -> Result<(), AllocError>
         ensures { (old : Datum) → is_same ≡ same old value → OnOk result (Does (changed_at way last old value (object_of self.old.doc)) self.old self.new) }
     {
         if is_same {

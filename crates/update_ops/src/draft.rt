@@ -32,7 +32,12 @@ fn copy_parts(alloc: Global, parts: &[Part]) -> Result<List<Part>, AllocError>
     Ok(copies)
 }
 
-fn mark_element(alloc: Global, marks: &mut List<Mark>, way: &[Part], at: u32) -> Result<(), AllocError>
+fn mark_element(
+    alloc: Global,
+    marks: &mut List<Mark>,
+    way: &[Part],
+    at: u32,
+) -> Result<(), AllocError>
     ensures { OnOk result (marks.new ≡ marks.old ++ elements way.now at 1) }
 {
     marks.push(Mark {
@@ -151,7 +156,13 @@ impl Draft {
     pub fn take_out(&mut self, way: List<Part>, last: Part) -> Result<(), AllocError>
         ensures { OnOk result (IsAfter (removed way last (object_of self.old.doc)) self.old self.new) }
     {
-        change_document(&mut self.doc, Form::V2, way.as_slice(), &last, Change::Delete)?;
+        change_document(
+            &mut self.doc,
+            Form::V2,
+            way.as_slice(),
+            &last,
+            Change::Delete,
+        )?;
         let made = Made::Changed;
         self.marks.push(Mark { way, last, made })
     }
