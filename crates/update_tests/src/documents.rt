@@ -1,7 +1,7 @@
 //! Documents as texts.
-use bson_value::{Doc, Value};
-use extjson::value_of;
-use json_text::parse;
+use bson_value::{Doc, Text, Value};
+use extjson::{tree_of, value_of};
+use json_text::{parse, print};
 use std::alloc::Global;
 use std::test::Fail;
 
@@ -11,4 +11,9 @@ pub fn document(alloc: Global, text: &str) -> Result<Doc, Fail> {
         Value::Object(doc) => Ok(doc),
         _ => Err("no document")?,
     }
+}
+
+/// The text of a value, with whole numbers of 32 bits as they are.
+pub fn text_of(alloc: Global, value: &Value) -> Result<Text, Fail> {
+    Ok(print(alloc, &tree_of(alloc, value)?)?)
 }

@@ -5,3 +5,5 @@
 mod documents;
 #[cfg(test)]
 mod operators;
+#[cfg(test)]
+mod updates;
