@@ -1,0 +1,11 @@
+pub mod Conflicts
+pub mod Arguments
+pub mod Reading
+pub mod Equality
+pub mod Numbers
+pub mod Located
+pub mod Steps
+pub mod Acts
+pub mod Touched
+pub mod Updating
+pub mod Laws

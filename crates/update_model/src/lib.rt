@@ -1,0 +1,14 @@
+//! Updates of documents: operators, what they make of a document, and the touches that record it.
+#![tactic(auto)]
+
+mod fault;
+mod laws;
+mod mark;
+mod operator;
+mod updated;
+
+pub use fault::{OpsFault, UpdateFault};
+pub use laws::equality_is_tested;
+pub use mark::{Made, Mark};
+pub use operator::{ArrayEnd, Number, Operator, OperatorName};
+pub use updated::Updated;

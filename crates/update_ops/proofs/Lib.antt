@@ -1,0 +1,10 @@
+pub mod TextOrder
+pub mod Behind
+pub mod Clashes
+pub mod Leads
+pub mod Elements
+pub mod News
+pub mod Zeros
+pub mod Touches
+pub mod ShortLevels
+pub mod Progress

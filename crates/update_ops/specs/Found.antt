@@ -1,0 +1,23 @@
+-- What was found of a path, with its values lent.
+use Rattle.std.specs.Prelude.{List, [], ◌∷◌, ◌++◌}
+use Rattle.doc_path.specs.declared.parts.Part.{Part}
+use Rattle.update_model.specs.Located.{Located, There, Missing, Blocked, further, located}
+use Rattle.update_model.specs.Conflicts.{Path}
+use Rattle.bson_value.specs.declared.value.Value.{Value}
+use Rattle.update_ops.specs.declared.locating.Found.{Found}
+use Rattle.update_ops.specs.declared.locating.Found.TheVariants as found
+
+abbrev pub located_as : List Part → Found → Located
+located_as ws (found.There p v) = There ws p v.now
+located_as ws (found.Missing p n rest) = Missing ws p n rest.now
+located_as ws found.Blocked = Blocked
+
+-- the same behind other parts
+abbrev pub behind : List Part → Located → Located
+behind ws (There us p c) = There (ws ++ us) p c
+behind ws (Missing us p n ks) = Missing (ws ++ us) p n ks
+behind ws Blocked = Blocked
+
+-- where these names lead from a value under a part
+abbrev pub gone_on : Part → Path → Value → Located
+gone_on p ks c = further ks (located ks) p c

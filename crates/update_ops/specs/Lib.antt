@@ -1,0 +1,9 @@
+pub mod Prefixes
+pub mod Keys
+pub mod Behind
+pub mod Appended
+pub mod Found
+pub mod Drafts
+pub mod Operations
+pub mod PlaceKeys
+pub mod Ends

@@ -1,0 +1,94 @@
+//! Lists of values.
+ghost use Rattle.std.specs.Prelude.{◌≡◌, ◌++◌, filter, not, IfOk, OnOk};
+ghost use Rattle.std.specs.List.{list_any};
+ghost use Rattle.update_model.specs.Equality.{same};
+ghost use Rattle.update_model.specs.Acts.{new_ones, others};
+
+use bson_value::{List, Value};
+use std::alloc::{AllocError, Global};
+
+/// Whether the two are equal, as operators compare values.
+pub fn equals(a: &Value, b: &Value) -> bool
+    ensures { result ≡ same a.now b.now }
+{
+    a.same(b)
+}
+
+fn push_copies(alloc: Global, list: &mut List<Value>, items: &[Value]) -> Result<(), AllocError>
+    ensures { OnOk result (list.new ≡ list.old ++ items.now) }
+{
+    for item in items {
+        list.push(item.copy(alloc)?)?;
+    }
+    Ok(())
+}
+
+/// Equal values.
+pub fn copies(alloc: Global, items: &[Value]) -> Result<List<Value>, AllocError>
+    ensures { IfOk result (λ list. list ≡ items.now) }
+{
+    let mut list = List::new(alloc);
+    push_copies(alloc, &mut list, items)?;
+    Ok(list)
+}
+
+/// Whether the value is among these.
+fn is_among(value: &Value, items: &[Value]) -> bool
+    ensures { result ≡ list_any (same value.now) items.now }
+{
+    for item in items {
+        if equals(value, item) {
+            return true;
+        }
+    }
+    false
+}
+
+/// Whether one of these is equal to the value.
+pub fn has(items: &[Value], value: &Value) -> bool
+    ensures { result ≡ list_any (λ i. same i value.now) items.now }
+{
+    for item in items {
+        if equals(item, value) {
+            return true;
+        }
+    }
+    false
+}
+
+/// The items with the values behind them.
+pub fn extended(alloc: Global, items: &[Value], values: &[Value]) -> Result<List<Value>, AllocError>
+    ensures { IfOk result (λ list. list ≡ items.now ++ values.now) }
+{
+    let mut list = List::new(alloc);
+    push_copies(alloc, &mut list, items)?;
+    push_copies(alloc, &mut list, values)?;
+    Ok(list)
+}
+
+/// The items, and behind them each value that is equal to none before it.
+pub fn united(alloc: Global, items: &[Value], values: &[Value]) -> Result<List<Value>, AllocError>
+    ensures { IfOk result (λ list. list ≡ items.now ++ new_ones items.now values.now) }
+{
+    let mut list = List::new(alloc);
+    push_copies(alloc, &mut list, items)?;
+    for value in values {
+        if !is_among(value, list.as_slice()) {
+            list.push(value.copy(alloc)?)?;
+        }
+    }
+    Ok(list)
+}
+
+/// The items that aren't equal to the value.
+pub fn without(alloc: Global, items: &[Value], value: &Value) -> Result<List<Value>, AllocError>
+    ensures { IfOk result (λ list. list ≡ others value.now items.now) }
+{
+    let mut list = List::new(alloc);
+    for item in items {
+        if !equals(item, value) {
+            list.push(item.copy(alloc)?)?;
+        }
+    }
+    Ok(list)
+}
