@@ -198,12 +198,7 @@ fn duplicate_line(
     format!(in alloc; "duplicate key: {place} {first} {second}\n")
 }
 
-fn parallel_line(
-    alloc: Global,
-    ns: &NsName,
-    index: &Text,
-    id: &Value,
-) -> Result<String, AllocError>
+fn parallel_line(alloc: Global, ns: &NsName, index: &Text, id: &Value) -> Result<String, AllocError>
     ensures { IfOk result (λ s. string_bytes s ≡ parallel_line ns.now index.now id.now) }
 {
     let place = index_text(alloc, ns, index)?;

@@ -21,7 +21,9 @@ pub enum ArchiveFault {
 pub enum Status {
     Done,
     /// The words aren't a command; the place is that of the first word that can't stand where it stands.
-    Usage { word: usize },
+    Usage {
+        word: usize,
+    },
     BadArchive(ArchiveFault),
     ReadFault,
     WriteFault,
@@ -34,7 +36,11 @@ pub enum Status {
         second: Value,
     },
     /// Two fields of an index meet an array in one document, which is told by its `_id`.
-    ParallelArrays { ns: NsName, index: Text, id: Value },
+    ParallelArrays {
+        ns: NsName,
+        index: Text,
+        id: Value,
+    },
 }
 
 impl Status {
