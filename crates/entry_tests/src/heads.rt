@@ -1,6 +1,7 @@
 //! Worked heads of entries.
 use bson_value::{CText, Doc, Text, Ts, Value};
-use oplog_entry::{EntryFault, entry_reads_back, head, written_is_document, written_is_read};
+use entry_model::{EntryFault, entry_reads_back, written_is_document, written_is_read};
+use oplog_entry::head;
 use std::alloc::Global;
 use std::test::Fail;
 

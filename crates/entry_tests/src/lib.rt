@@ -3,3 +3,7 @@
 
 #[cfg(test)]
 mod heads;
+#[cfg(test)]
+mod reading;
+#[cfg(test)]
+mod shown;

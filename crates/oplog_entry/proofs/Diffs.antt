@@ -16,10 +16,10 @@ use Rattle.oplog_entry.specs.declared.delta.DiffField.{DiffField}
 use Rattle.oplog_entry.specs.declared.delta.DiffField.TheVariants.{Mark, Length, Unsets as Removes, Sets as Puts, At, Below}
 use Rattle.oplog_entry.specs.declared.delta.DeltaFault.{DeltaFault}
 use Rattle.oplog_entry.specs.declared.delta.DeltaFault.TheVariants as DeltaFaults
-use Rattle.oplog_entry.specs.Edits.{Sets, Edit, mapped, under}
-use Rattle.oplog_entry.specs.Written.{Fields, d_name, u_name, i_name, a_name, l_name}
-use Rattle.oplog_entry.specs.Reads.{Read, object_in, fields_as, unset_of, set_of, below_part, length_read, then_also, all_read, has_a, at_index, document_field, array_field, diff_read}
-use Rattle.oplog_entry.specs.Touches.{touch_by}
+use Rattle.entry_model.specs.Edits.{Sets, Edit, mapped, under}
+use Rattle.entry_model.specs.Written.{Fields, d_name, u_name, i_name, a_name, l_name}
+use Rattle.entry_model.specs.Reads.{Read, object_in, fields_as, unset_of, set_of, below_part, length_read, then_also, all_read, has_a, at_index, document_field, array_field, diff_read}
+use Rattle.entry_model.specs.Touches.{touch_by}
 use Rattle.oplog_entry.specs.DiffFields.{low_index, or_else, by_letter, document_kind, array_kind, by_kind, by_name, fields_read, at_front, diff_at, Adds, IsBad}
 use Rattle.oplog_entry.proofs.Pushes.{mapped_append, append_nil}
 

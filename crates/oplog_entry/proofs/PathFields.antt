@@ -11,15 +11,15 @@ use Rattle.doc_path.specs.declared.touches.Touch.{Touch}
 use Rattle.doc_path.specs.declared.touches.Touch.TheVariants.{Set, Unset}
 use Rattle.doc_path.specs.Paths.{parts_of}
 use Rattle.doc_path.specs.Played.{way_and_last}
-use Rattle.oplog_entry.specs.Edits.{Sets, Unsets, Edit, mapped}
+use Rattle.entry_model.specs.Edits.{Sets, Unsets, Edit, mapped}
 use Rattle.bson_value.specs.declared.value.Value.TheVariants.{Object}
 use Rattle.doc_path.specs.declared.parts.Form.{Form}
 use Rattle.doc_path.specs.declared.parts.Form.TheVariants.{V1, V2}
-use Rattle.oplog_entry.specs.Written.{Fields, set_name, unset_name, diff_name}
-use Rattle.oplog_entry.specs.Reads.{Read, then_also, at_path, path_fields, outermost}
+use Rattle.entry_model.specs.Written.{Fields, set_name, unset_name, diff_name}
+use Rattle.entry_model.specs.Reads.{Read, then_also, at_path, path_fields, outermost}
 use Rattle.oplog_entry.specs.DiffFields.{at_front, Adds}
 use Rattle.oplog_entry.specs.PathTouches.{path_set, path_unset, form_field}
-use Rattle.oplog_entry.proofs.Ordered.{object_read}
+use Rattle.entry_model.proofs.Ordered.{object_read}
 use Rattle.oplog_entry.proofs.Pushes.{mapped_append}
 
 some_parts : (text : List ℕ) → parts_of text ≡ [] → ⊥

@@ -7,7 +7,7 @@ use Rattle.std.proofs.lemmas.Bool.{ne_eqb}
 use Rattle.doc_path.specs.declared.parts.Part.{Part}
 use Rattle.doc_path.specs.declared.parts.Part.TheVariants.{Name as name}
 use Rattle.doc_path.specs.Paths.{parts_of, dot}
-use Rattle.oplog_entry.specs.Edits.{mapped}
+use Rattle.entry_model.specs.Edits.{mapped}
 
 abbrev pub NoZero : List ℕ → Type 0
 NoZero text = Contains text 0 → ⊥

@@ -1,7 +1,7 @@
 -- Lists that a loop makes, element by element.
 use Rattle.std.proofs.Common.{◌≡◌, ℕ, ◌+◌, ◌<◌, ◌≤◌, List, [], ◌∷◌, ◌++◌, length, take, get_or, refl, sym, ap, ◌∙◌, append_assoc}
 use Rattle.std.proofs.lemmas.List.{take_more, take_all}
-use Rattle.oplog_entry.specs.Edits.{mapped}
+use Rattle.entry_model.specs.Edits.{mapped}
 
 module _ {A B : Type 0} (g : A → B) where
   pub mapped_append : (xs ys : List A) → mapped g (xs ++ ys) ≡ mapped g xs ++ mapped g ys

@@ -3,11 +3,11 @@ use Rattle.std.proofs.Common.{◌≡◌, ℕ, zero, suc, ◌<◌, List, [], ◌�
 use Rattle.std.specs.Prelude.{Some, None, Result, Ok, Err}
 use Rattle.bson_value.specs.declared.value.Value.{Value}
 use Rattle.doc_path.specs.declared.touches.Touch.{Touch}
-use Rattle.oplog_entry.specs.declared.fault.EntryFault.{EntryFault}
-use Rattle.oplog_entry.specs.declared.fault.EntryFault.TheVariants as faults
-use Rattle.oplog_entry.specs.Edits.{Edit}
-use Rattle.oplog_entry.specs.Written.{Fields}
-use Rattle.oplog_entry.specs.Reads.{Read, then_also, all_read, or_bad, and_then, each_field}
+use Rattle.entry_model.specs.declared.fault.EntryFault.{EntryFault}
+use Rattle.entry_model.specs.declared.fault.EntryFault.TheVariants as faults
+use Rattle.entry_model.specs.Edits.{Edit}
+use Rattle.entry_model.specs.Written.{Fields}
+use Rattle.entry_model.specs.Reads.{Read, then_also, all_read, or_bad, and_then, each_field}
 use Rattle.oplog_entry.specs.DiffFields.{Adds}
 use Rattle.oplog_entry.specs.PathTouches.{listed}
 use Rattle.oplog_entry.specs.Answers.{IsFault, Fails}

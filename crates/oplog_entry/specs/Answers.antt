@@ -1,8 +1,8 @@
 -- What a call answers where it reads, and where memory ends.
 use Rattle.std.specs.Prelude.{◌≡◌, Ok, Err}
-use Rattle.oplog_entry.specs.declared.fault.EntryFault.{EntryFault}
-use Rattle.oplog_entry.specs.declared.fault.EntryFault.TheVariants.{NoMemory}
-use Rattle.oplog_entry.specs.Reading.{Read}
+use Rattle.entry_model.specs.declared.fault.EntryFault.{EntryFault}
+use Rattle.entry_model.specs.declared.fault.EntryFault.TheVariants.{NoMemory}
+use Rattle.entry_model.specs.Reading.{Read}
 
 -- this fault, unless memory ran out
 abbrev pub IsFault : EntryFault → EntryFault → Type 0

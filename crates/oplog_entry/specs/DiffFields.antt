@@ -10,10 +10,10 @@ use Rattle.oplog_entry.specs.declared.delta.DiffField.{DiffField}
 use Rattle.oplog_entry.specs.declared.delta.DiffField.TheVariants.{Mark, Length, Unsets as Removes, Sets as Puts, At, Below}
 use Rattle.oplog_entry.specs.declared.delta.DeltaFault.{DeltaFault}
 use Rattle.oplog_entry.specs.declared.delta.DeltaFault.TheVariants.{NoMemory, Bad}
-use Rattle.oplog_entry.specs.Edits.{Sets, Edit, mapped}
-use Rattle.oplog_entry.specs.Written.{Fields, d_name, u_name, i_name, a_name, l_name}
-use Rattle.oplog_entry.specs.Reads.{Read, fields_as, unset_of, set_of, below_part, length_read, all_read, diff_read, outermost}
-use Rattle.oplog_entry.specs.Touches.{touch_by}
+use Rattle.entry_model.specs.Edits.{Sets, Edit, mapped}
+use Rattle.entry_model.specs.Written.{Fields, d_name, u_name, i_name, a_name, l_name}
+use Rattle.entry_model.specs.Reads.{Read, fields_as, unset_of, set_of, below_part, length_read, all_read, diff_read, outermost}
+use Rattle.entry_model.specs.Touches.{touch_by}
 
 -- what stands behind this first letter
 abbrev pub behind_letter : ℕ → List ℕ → Option (List ℕ)

@@ -1,12 +1,4 @@
-pub mod Edits
-pub mod Written
-pub mod Reads
-pub mod Laws
-pub mod Touches
-pub mod Distinct
-pub mod Spelling
-pub mod Reading
-pub mod Writable
 pub mod Answers
 pub mod DiffFields
 pub mod PathTouches
+pub mod Parts

@@ -3,8 +3,8 @@ ghost use Rattle.std.specs.Prelude.{◌≡◌, ◌++◌, ◌∷◌, [], false, I
 ghost use Rattle.std.specs.Option.{option_copied};
 ghost use Rattle.bson_value.specs.Digits.{index_of as index_of_name};
 ghost use Rattle.oplog_entry.specs.declared.delta.DeltaFault.TheVariants.{NoMemory};
-ghost use Rattle.oplog_entry.specs.Edits.{mapped, Sets as Puts};
-ghost use Rattle.oplog_entry.specs.Reads.{unset_of, set_of, length_read, diff_read};
+ghost use Rattle.entry_model.specs.Edits.{mapped, Sets as Puts};
+ghost use Rattle.entry_model.specs.Reads.{unset_of, set_of, length_read, diff_read};
 ghost use Rattle.oplog_entry.specs.declared.delta.DiffField.TheVariants.{Length};
 ghost use Rattle.bson_value.specs.declared.value.Value.{out-Value};
 ghost use Rattle.doc_path.specs.declared.parts.Part.TheVariants.{Index};

@@ -2,12 +2,14 @@
 ghost use Rattle.std.specs.Prelude.{◌≡◌, IfOk, IfErr, Ok};
 ghost use Rattle.std.specs.Option.{option_copied};
 ghost use Rattle.bson_value.specs.declared.value.Value.{out-Value};
-ghost use Rattle.oplog_entry.specs.declared.fault.EntryFault.TheVariants.{MissingField, BadField};
+ghost use Rattle.containers.specs.Entries.{lookup};
+ghost use Rattle.doc_path.specs.Played.{id_name};
+ghost use Rattle.entry_model.specs.declared.fault.EntryFault.TheVariants.{MissingField, BadField};
 ghost use Rattle.oplog_entry.specs.Answers.{IsFault, Fails};
-ghost use Rattle.oplog_entry.specs.Reading.{field, text_in, document_in, array_in, stamp_in};
+ghost use Rattle.entry_model.specs.Reading.{there, field, text_in, document_in, array_in, stamp_in};
 
-use crate::fault::EntryFault;
 use bson_value::{Doc, List, Text, Ts, Value};
+use entry_model::EntryFault;
 use std::alloc::Global;
 
 pub(crate) fn missing(alloc: Global, name: &str) -> EntryFault
@@ -87,5 +89,50 @@ pub(crate) fn stamp_field(alloc: Global, doc: &Doc, name: &str) -> Result<Ts, En
     match stamp_in(value) {
         Some(ts) => Ok(ts),
         None => Err(bad(alloc, name)),
+    }
+}
+
+pub(crate) fn document_field<'d>(
+    alloc: Global,
+    doc: &'d Doc,
+    name: &str,
+) -> Result<&'d Doc, EntryFault>
+    ensures ok { IfOk result (λ d. field document_in name.now doc.now ≡ Ok d.now) }
+    ensures err { IfErr result (λ e. Fails e (field document_in name.now doc.now)) }
+{
+    let Some(value) = doc.get(name) else {
+        return Err(missing(alloc, name));
+    };
+    match document_in(value) {
+        Some(fields) => Ok(fields),
+        None => Err(bad(alloc, name)),
+    }
+}
+
+pub(crate) fn array_field<'d>(
+    alloc: Global,
+    doc: &'d Doc,
+    name: &str,
+) -> Result<&'d List<Value>, EntryFault>
+    ensures ok { IfOk result (λ vs. field array_in name.now doc.now ≡ Ok vs.now) }
+    ensures err { IfErr result (λ e. Fails e (field array_in name.now doc.now)) }
+{
+    let Some(value) = doc.get(name) else {
+        return Err(missing(alloc, name));
+    };
+    match array_in(value) {
+        Some(items) => Ok(items),
+        None => Err(bad(alloc, name)),
+    }
+}
+
+/// The `_id` of a document, or the fault that `name` is missing.
+pub(crate) fn id_field<'d>(alloc: Global, doc: &'d Doc, name: &str) -> Result<&'d Value, EntryFault>
+    ensures ok { IfOk result (λ v. there name.now (lookup id_name doc.now) ≡ Ok v.now) }
+    ensures err { IfErr result (λ e. Fails e (there name.now (lookup id_name doc.now))) }
+{
+    match doc.get("_id") {
+        Some(id) => Ok(id),
+        None => Err(missing(alloc, name)),
     }
 }

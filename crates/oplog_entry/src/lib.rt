@@ -1,16 +1,14 @@
-//! Entries of the oplog: their documents in both forms of updates, and what a document is read as.
+//! Entries of the oplog: which entry a document is.
 #![tactic(auto)]
 
+mod commands;
 mod delta;
-mod entry;
-mod fault;
 mod fields;
-mod laws;
+mod names;
+mod operations;
 mod paths;
 mod reading;
 mod update;
 
-pub use entry::{Action, Entry};
-pub use fault::EntryFault;
-pub use laws::{entry_reads_back, written_is_document, written_is_read};
-pub use reading::head;
+pub use entry_model::{Action, Entry, EntryFault};
+pub use reading::{head, read};

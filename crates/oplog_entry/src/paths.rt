@@ -2,7 +2,7 @@
 ghost use Rattle.std.specs.Prelude.{◌≡◌, ◌++◌, IfOk, OnOk, Contains};
 ghost use Rattle.doc_path.specs.declared.parts.Part.TheVariants.{Name};
 ghost use Rattle.doc_path.specs.Paths.{parts_of};
-ghost use Rattle.oplog_entry.specs.Edits.{mapped};
+ghost use Rattle.entry_model.specs.Edits.{mapped};
 ghost use Rattle.oplog_entry.specs.PathTouches.{path_set, path_unset};
 
 use bson_value::{CText, Doc, List};

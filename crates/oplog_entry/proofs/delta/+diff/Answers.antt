@@ -5,8 +5,8 @@ use Rattle.bson_value.specs.declared.value.Value.{Value}
 use Rattle.doc_path.specs.declared.parts.Part.{Part}
 use Rattle.oplog_entry.specs.declared.delta.DiffField.{DiffField}
 use Rattle.oplog_entry.specs.declared.delta.DeltaFault.{DeltaFault}
-use Rattle.oplog_entry.specs.Written.{Fields}
-use Rattle.oplog_entry.specs.Reads.{Read, all_read, diff_read}
+use Rattle.entry_model.specs.Written.{Fields}
+use Rattle.entry_model.specs.Reads.{Read, all_read, diff_read}
 use Rattle.oplog_entry.specs.DiffFields.{kind_in, by_kind, by_name, diff_at, Adds, IsBad}
 use Rattle.oplog_entry.proofs.Diffs.{FitsFront, fits_document, fits_behind, diff_is, marked, bad_one, bad_so, adds_more, diff_below, below_kind, on_ok, if_err}
 use Rattle.oplog_entry.proofs.delta.+diff.Goals as goal

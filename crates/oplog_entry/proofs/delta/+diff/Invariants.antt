@@ -1,5 +1,5 @@
 use Rattle.std.proofs.Common.{◌-◌, take}
-use Rattle.oplog_entry.specs.Reads.{all_read, diff_read}
+use Rattle.entry_model.specs.Reads.{all_read, diff_read}
 use Rattle.oplog_entry.specs.DiffFields.{kind_in, by_name, Adds}
 use Rattle.oplog_entry.proofs.delta.+diff.Given as goal
 

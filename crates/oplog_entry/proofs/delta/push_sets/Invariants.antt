@@ -1,6 +1,6 @@
 use Rattle.std.proofs.Common.{◌≡◌, ◌++◌, take}
-use Rattle.oplog_entry.specs.Edits.{mapped}
-use Rattle.oplog_entry.specs.Reads.{set_of}
+use Rattle.entry_model.specs.Edits.{mapped}
+use Rattle.entry_model.specs.Reads.{set_of}
 use Rattle.oplog_entry.specs.DiffFields.{at_front}
 use Rattle.oplog_entry.proofs.delta.push_sets.Given as goal
 

@@ -3,8 +3,8 @@ use Rattle.bson_value.specs.declared.value.Value.{Value}
 use Rattle.doc_path.specs.declared.touches.Touch.{Touch}
 use Rattle.doc_path.specs.declared.touches.Touch.TheVariants.{Unset}
 use Rattle.doc_path.specs.declared.parts.Part.TheVariants.{Name as name}
-use Rattle.oplog_entry.specs.Edits.{mapped}
-use Rattle.oplog_entry.specs.Reads.{unset_of}
+use Rattle.entry_model.specs.Edits.{mapped}
+use Rattle.entry_model.specs.Reads.{unset_of}
 use Rattle.oplog_entry.specs.DiffFields.{at_front}
 use Rattle.oplog_entry.proofs.Pushes.{pushed, all_pushed, mapped_twice, append_nil}
 use Rattle.oplog_entry.proofs.delta.push_unsets.Goals as goal

@@ -1,6 +1,6 @@
 use Rattle.std.proofs.Common.{◌≡◌, ◌++◌, take}
-use Rattle.oplog_entry.specs.Edits.{mapped}
-use Rattle.oplog_entry.specs.Reads.{unset_of}
+use Rattle.entry_model.specs.Edits.{mapped}
+use Rattle.entry_model.specs.Reads.{unset_of}
 use Rattle.oplog_entry.specs.DiffFields.{at_front}
 use Rattle.oplog_entry.proofs.delta.push_unsets.Given as goal
 

@@ -4,7 +4,7 @@ use Rattle.std.proofs.lemmas.Str.Pattern.{split_parts}
 use Rattle.doc_path.specs.declared.parts.Part.{Part}
 use Rattle.doc_path.specs.declared.parts.Part.TheVariants.{Name as name}
 use Rattle.doc_path.specs.Paths.{parts_of}
-use Rattle.oplog_entry.specs.Edits.{mapped}
+use Rattle.entry_model.specs.Edits.{mapped}
 use Rattle.oplog_entry.proofs.PathParts.{one_name, next_name, back_no_zero, name_pushed, last_pushed, if_ok}
 use Rattle.oplog_entry.proofs.paths.path_place.Goals as goal
 

@@ -1,7 +1,7 @@
 use Rattle.std.proofs.Common.{◌≡◌, ◌++◌, length, IsUtf8}
 use Rattle.doc_path.specs.declared.parts.Part.TheVariants.{Name as name}
 use Rattle.doc_path.specs.Paths.{parts_of}
-use Rattle.oplog_entry.specs.Edits.{mapped}
+use Rattle.entry_model.specs.Edits.{mapped}
 use Rattle.oplog_entry.proofs.PathParts.{NoZero}
 use Rattle.oplog_entry.proofs.paths.path_place.Given as goal
 

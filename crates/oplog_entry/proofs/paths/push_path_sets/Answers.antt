@@ -3,7 +3,7 @@ use Rattle.bson_value.specs.declared.value.Value.{Value}
 use Rattle.doc_path.specs.declared.parts.Part.TheVariants.{Name as name}
 use Rattle.doc_path.specs.declared.touches.Touch.TheVariants.{Set}
 use Rattle.doc_path.specs.Paths.{parts_of}
-use Rattle.oplog_entry.specs.Edits.{mapped}
+use Rattle.entry_model.specs.Edits.{mapped}
 use Rattle.oplog_entry.specs.PathTouches.{path_set}
 use Rattle.oplog_entry.proofs.Pushes.{pushed, all_pushed}
 use Rattle.oplog_entry.proofs.paths.push_path_sets.Goals as goal

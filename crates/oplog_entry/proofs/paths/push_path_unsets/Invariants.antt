@@ -1,5 +1,5 @@
 use Rattle.std.proofs.Common.{◌≡◌, ◌++◌, take}
-use Rattle.oplog_entry.specs.Edits.{mapped}
+use Rattle.entry_model.specs.Edits.{mapped}
 use Rattle.oplog_entry.specs.PathTouches.{path_unset}
 use Rattle.oplog_entry.proofs.paths.push_path_unsets.Given as goal
 

@@ -3,9 +3,9 @@ use Rattle.std.specs.Prelude.{None, Err}
 use Rattle.std.proofs.lemmas.List.{take_all}
 use Rattle.bson_value.specs.declared.value.Value.{Value}
 use Rattle.oplog_entry.specs.declared.delta.DeltaFault.{DeltaFault}
-use Rattle.oplog_entry.specs.declared.fault.EntryFault.TheVariants.{BadField}
-use Rattle.oplog_entry.specs.Written.{Fields}
-use Rattle.oplog_entry.specs.Reads.{Read, all_read}
+use Rattle.entry_model.specs.declared.fault.EntryFault.TheVariants.{BadField}
+use Rattle.entry_model.specs.Written.{Fields}
+use Rattle.entry_model.specs.Reads.{Read, all_read}
 use Rattle.oplog_entry.specs.DiffFields.{Adds, IsBad}
 use Rattle.oplog_entry.specs.PathTouches.{form_field, fields_touches}
 use Rattle.oplog_entry.proofs.Diffs.{adds_more}

@@ -1,5 +1,5 @@
 use Rattle.std.proofs.Common.{[], take}
-use Rattle.oplog_entry.specs.Reads.{all_read}
+use Rattle.entry_model.specs.Reads.{all_read}
 use Rattle.oplog_entry.specs.DiffFields.{Adds}
 use Rattle.oplog_entry.specs.PathTouches.{form_field}
 use Rattle.oplog_entry.proofs.update.update_touches.Given as goal

@@ -1,0 +1,16 @@
+pub mod Lists
+pub mod Standing
+pub mod Ordered
+pub mod Members
+pub mod Whole
+pub mod Dotted
+pub mod Blocks
+pub mod Regrouped
+pub mod Names
+pub mod Names2
+pub mod Names1
+pub mod Touched
+pub mod Spelled
+pub mod Deep
+pub mod Distinct
+pub mod Entries

@@ -1,0 +1,9 @@
+pub mod Edits
+pub mod Written
+pub mod Reads
+pub mod Laws
+pub mod Touches
+pub mod Distinct
+pub mod Spelling
+pub mod Reading
+pub mod Writable
