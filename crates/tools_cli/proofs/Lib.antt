@@ -5,3 +5,4 @@ pub mod Numbers
 pub mod Reading
 pub mod Stopped
 pub mod Telling
+pub mod Pieces

@@ -1,14 +1,18 @@
 -- What was read of the input of `restore`, and what its outcome is.
-use Rattle.std.proofs.Common.{◌≡◌, ◌⊎◌, ℕ, List, inl, inr}
+use Rattle.std.proofs.Common.{◌≡◌, ◌⊎◌, ℕ, List, inl, inr, sym, subst}
 use Rattle.std.specs.Prelude.{Option, Some, None, []}
 use Rattle.state_listing.specs.Listing.{State}
 use Rattle.index_build.specs.declared.fault.CountFault.{CountFault}
+use Rattle.index_build.specs.declared.fault.CountFault.TheVariants as counts
+use Rattle.index_build.specs.Faults.{IsCountFault}
 use Rattle.restore_base.specs.Indexes.{index_fault}
 use Rattle.restore_base.specs.Outcome.{Outcome, RestoresTo, IsOutcome, IsReadTo, IsRefused, OnInput, restores, fails}
 use Rattle.restore_base.proofs.Outcomes.{unread, refused_once}
 use Rattle.tool_io.specs.Ends.{End}
-use Rattle.tools_cli.specs.Ends.{Turn}
-use Rattle.tools_cli.specs.RestoreAnswers.{ReadsSome, Refused, HasOutcome}
+use Rattle.tools_cli.specs.declared.order.RestoreOrder.{RestoreOrder}
+use Rattle.tools_cli.specs.declared.status.Status.{Status}
+use Rattle.tools_cli.specs.Ends.{Turn, Same}
+use Rattle.tools_cli.specs.RestoreAnswers.{ReadsSome, Refused, HasOutcome, RestoreSays, IsIndexStatus}
 
 pub all_read : (o now : Option (List ℕ)) (s : State) → OnInput o (λ all. (now ≡ Some []) × RestoresTo all s) → OnInput o (λ all. (now ≡ Some []) ⊎ IsReadTo all now)
 all_read None now s h = tt
@@ -39,3 +43,11 @@ refused i o h = go i.before.bytes h where
   go : (known : Option (List ℕ)) → OnInput known (λ all. IsRefused all i.after.bytes o) → OnInput known (λ all. IsOutcome all o)
   go None r = tt
   go (Some all) r = refused_once all i.after.bytes o r
+
+-- what is said where indexes can't be built
+pub unbuilt : (order : RestoreOrder) (status : Status) (f : CountFault) (i o : Turn) (s : State) → IsIndexStatus status f → OnInput i.before.bytes (λ all. (i.after.bytes ≡ Some []) × RestoresTo all s) → IsCountFault f (index_fault s) → Same o → RestoreSays order status i o
+unbuilt order status counts.NoMemory i o s is r c e = subst (λ t. RestoreSays order t i o) (sym is) (all_read i.before.bytes i.after.bytes s r, inl e)
+unbuilt order status (counts.Parallel n j a) i o s is r c e =
+    subst (λ t. RestoreSays order t i o) (sym is) (whole_read i.before.bytes i.after.bytes s r, failure i.before.bytes i.after.bytes s (counts.Parallel n j a) r c, e)
+unbuilt order status (counts.Duplicate n j a b) i o s is r c e =
+    subst (λ t. RestoreSays order t i o) (sym is) (whole_read i.before.bytes i.after.bytes s r, failure i.before.bytes i.after.bytes s (counts.Duplicate n j a b) r c, e)

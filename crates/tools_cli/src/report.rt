@@ -2,6 +2,7 @@
 ghost use Rattle.std.specs.Prelude.{◌≡◌, ◌⊎◌, IfOk, string_bytes};
 ghost use Rattle.tools_cli.specs.Ends.{turn, Tells};
 ghost use Rattle.tools_cli.specs.Answers.{Told, RunsOut};
+ghost use Rattle.json_text.specs.Print.{quoted as quoted_string};
 ghost use Rattle.tools_cli.specs.Lines.{kind_text, quoted_name, sum_text, format_text, refusal_text, usage_line, refusal_line, id_text, index_text, duplicate_line, parallel_line, line_of};
 
 use crate::status::{ArchiveFault, Status};
@@ -173,13 +174,19 @@ fn id_text(alloc: Global, id: &Value) -> Result<String, AllocError>
     Ok(text.into_string())
 }
 
+fn quoted_text(alloc: Global, text: &Text) -> Result<String, AllocError>
+    ensures { IfOk result (λ s. string_bytes s ≡ quoted_string text.now) }
+{
+    let text = print(alloc, &Tree::Str(text.copy(alloc)?))?;
+    Ok(text.into_string())
+}
+
 // A collection and an index of it.
 fn index_text(alloc: Global, ns: &NsName, index: &Text) -> Result<String, AllocError>
     ensures { IfOk result (λ s. string_bytes s ≡ index_text ns.now index.now) }
 {
     let name = quoted(alloc, ns)?;
-    let index = print(alloc, &Tree::Str(index.copy(alloc)?))?;
-    let index = index.as_str();
+    let index = quoted_text(alloc, index)?;
     format!(in alloc; "{name} {index}")
 }
 

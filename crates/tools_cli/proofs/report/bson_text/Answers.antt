@@ -1,12 +1,10 @@
-use Rattle.std.proofs.Common.{ℕ, List, ◌≡◌, Ok, Err, sym, ap, ◌∙◌, append_assoc}
-use Rattle.std.specs.Prelude.{IfOk, Result, string_bytes, codes, ◌++◌}
+use Rattle.std.proofs.Common.{ℕ, List, ◌≡◌, sym, ap, ◌∙◌, append_assoc}
+use Rattle.std.specs.Prelude.{string_bytes, codes, ◌++◌}
 use Rattle.std.specs.Fmt.{decimal}
 use Rattle.tools_cli.specs.Lines.{kind_text}
+use Rattle.tools_cli.proofs.Pieces.{weaken}
 use Rattle.tools_cli.proofs.report.bson_text.Goals as goal
 
-weaken : {T E : Type 0} (r : Result T E) (P Q : T → Type 0) → ((x : T) → P x → Q x) → IfOk r P → IfOk r Q
-weaken (Ok x) P Q f h = f x h
-weaken (Err e) P Q f h = tt
 
 pub returns : goal.returns
 returns c =
