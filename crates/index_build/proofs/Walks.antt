@@ -113,3 +113,21 @@ one_made g done x left all e = append_assoc done (g x ∷ []) (each g left) ∙ 
 pub all_made : {B : Type 0} (done : List B) → done ++ [] ≡ done
 all_made [] = refl
 all_made (x ∷ done) = ap (λ l. x ∷ l) (all_made done)
+
+no_entries : (es : List (Key × Tree)) → [] ≡ each (λ (e : Key × Tree). e.1) es → es ≡ []
+no_entries [] e = refl
+no_entries (x ∷ es) e = cc
+
+-- a collection without definitions
+pub collection_bare : (s : Rows) (n : NsName) (defs : List Tree) (o : Option Table) → defs ≡ [] → map.get s.tables n ≡ o → Some defs ≡ option_map (λ (t : Table). map.values t.indexes) o →
+    (numbers_in (map.get (state_of s) n) ≡ []) × (collection_fault n (map.get (state_of s) n) ≡ None)
+collection_bare s n defs None b g e = absurd (nothing e)
+  where
+    nothing : Some defs ≡ None → ⊥
+    nothing e = cc
+collection_bare s n defs (Some t) b g e =
+    let there : map.get (state_of s) n ≡ Some (collection_of t) = get_collection s n ∙ ap (option_map collection_of) g in
+    let none : map.entries t.indexes ≡ [] = no_entries (map.entries t.indexes) (sym b ∙ some_list defs (map.values t.indexes) e) in (
+      ap numbers_in there ∙ ap (λ (es : List (Key × Tree)). numbers_of es (documents (collection_of t))) none,
+      ap (collection_fault n) there ∙ ap (λ (es : List (Key × Tree)). definitions_fault n es (documents (collection_of t))) none,
+    )
