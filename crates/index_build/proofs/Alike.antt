@@ -1,6 +1,6 @@
 -- States that are equal up to the order of fields have the same numbers, and a fault in both or in neither.
-use Rattle.std.proofs.Common.{◌≡◌, ℕ, ◌+◌, List, [], ◌∷◌, ◌++◌, length, map as each, Bool, true, false, refl, sym, ap, ◌∙◌, subst, Option, Some, None}
-use Rattle.std.specs.Prelude.{⊤, ◌||◌, ◌↔◌, option_map, is_some, if◌then◌else◌}
+use Rattle.std.proofs.Common.{◌≡◌, ◌+◌, List, [], ◌∷◌, ◌++◌, length, map as each, Bool, true, false, refl, sym, ap, ◌∙◌, Option, Some, None}
+use Rattle.std.specs.Prelude.{⊤, option_map, is_some, if◌then◌else◌}
 use Rattle.std.specs.FinMap as map
 use Rattle.bson_value.specs.declared.namespace.NsName.{NsName}
 use Rattle.bson_value.specs.declared.value.Value.{Value, Value-F, Object, out-Value, roll-Value, roll-out-Value}
@@ -19,11 +19,9 @@ use Rattle.index_keys.specs.Definition.{plan_of}
 use Rattle.index_keys.specs.Keys.{Fields, parallel}
 use Rattle.index_keys.specs.Texts.{key_text, key_texts, each_once}
 use Rattle.index_keys.proofs.AlikeKeys.{alike_keys, alike_parallel}
-use Rattle.index_build.specs.declared.fault.CountFault.{CountFault}
 use Rattle.index_build.specs.Documents.{fields, fields_at, documents}
-use Rattle.index_build.specs.Faults.{meet, share_a_key, first_parallel, duplicate, duplicate_if, parallel_fault, duplicate_fault, plan_fault, built_fault, definitions_fault, collection_fault, fault_among, fault, or_else}
-use Rattle.index_build.specs.Numbers.{pair_count, number, numbers_of, numbers, numbers_in, counts}
-use Rattle.index_build.specs.Owners.{Texts}
+use Rattle.index_build.specs.Faults.{meet, share_a_key, first_parallel, duplicate_if, parallel_fault, duplicate_fault, built_fault, definitions_fault, collection_fault, fault_among, fault, or_else}
+use Rattle.index_build.specs.Numbers.{pair_count, numbers_of, numbers_in, counts}
 use Rattle.index_build.specs.Repeats.{first_where, or_later, repeat_behind}
 use Rattle.index_build.proofs.Names.{counted}
 

@@ -1,18 +1,18 @@
 -- Walks over the collections of a state, their definitions and documents.
-use Rattle.std.proofs.Common.{◌≡◌, ℕ, List, [], ◌∷◌, ◌++◌, map as each, Bool, refl, sym, ap, ◌∙◌, subst, append_assoc, Option, Some, None}
+use Rattle.std.proofs.Common.{◌≡◌, List, [], ◌∷◌, ◌++◌, map as each, refl, sym, ap, ◌∙◌, subst, append_assoc, Option, Some, None}
 use Rattle.std.specs.Prelude.{◌&&◌, option_map, T}
 use Rattle.std.specs.Ordering.{is_lt}
 use Rattle.std.specs.FinMap as map
 use Rattle.std.specs.FinMap.Entries.{below_all}
 use Rattle.bson_value.specs.declared.namespace.NsName.{NsName}
-use Rattle.bson_value.specs.declared.value.Value.{Value, Object}
+use Rattle.bson_value.specs.declared.value.Value.{Object}
 use Rattle.bson_value.specs.declared.value.Value.TheVariants.{outs-Object}
 use Rattle.bson_value.specs.NamespaceOrder.{namespace_cmp}
 use Rattle.bson_view.specs.declared.held.Held.{Held}
 use Rattle.bson_view.specs.Held.{held_document}
 use Rattle.json_tree.specs.declared.tree.Tree.{Tree}
 use Rattle.state_model.specs.Keys.{Key, key_cmp}
-use Rattle.state_model.specs.States.{State, Collection}
+use Rattle.state_model.specs.States.{Collection}
 use Rattle.state_model.proofs.Keys.{ns_total}
 use Rattle.state_model.proofs.Maps.{ns_map_same}
 use Rattle.coll_state.specs.Definitions.{definition_name}
@@ -21,11 +21,10 @@ use Rattle.coll_state.specs.Rows.{Table, Rows, collection_of, collections_of, st
 use Rattle.coll_state.specs.Stock.{named}
 use Rattle.coll_state.proofs.Links.{get_collection}
 use Rattle.index_keys.specs.Keys.{Fields}
-use Rattle.index_build.specs.declared.fault.CountFault.{CountFault}
 use Rattle.index_build.specs.Counting.{held, held_values}
 use Rattle.index_build.specs.Documents.{fields, fields_at, documents}
-use Rattle.index_build.specs.Faults.{definitions_fault, collection_fault, fault_among, fault, or_else}
-use Rattle.index_build.specs.Numbers.{numbers_of, numbers_in, counts, Numbers}
+use Rattle.index_build.specs.Faults.{definitions_fault, collection_fault}
+use Rattle.index_build.specs.Numbers.{numbers_of, numbers_in}
 
 -- ---- documents
 

@@ -1,5 +1,5 @@
 -- The laws of counts and of indexes.
-use Rattle.std.specs.Prelude.{◌≡◌, List, Some, None, is_some}
+use Rattle.std.specs.Prelude.{◌≡◌, Some, None, is_some}
 use Rattle.std.specs.FinMap as map
 use Rattle.bson_value.specs.declared.namespace.NsName.{NsName}
 use Rattle.json_tree.specs.declared.tree.Tree.{Tree}
@@ -8,7 +8,6 @@ use Rattle.state_model.specs.States.{State, Collection}
 use Rattle.state_model.specs.Agreement.{SameStates}
 use Rattle.index_keys.specs.declared.plan.Plan.{Plan}
 use Rattle.index_keys.specs.Keys.{Fields}
-use Rattle.index_keys.specs.Texts.{key_texts}
 use Rattle.index_build.specs.Documents.{documents}
 use Rattle.index_build.specs.Faults.{fault}
 use Rattle.index_build.specs.Numbers.{pair_count, number, number_at, counts}

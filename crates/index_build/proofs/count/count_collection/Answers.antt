@@ -1,8 +1,6 @@
-use Rattle.std.proofs.Common.{◌≡◌, None, List, refl, sym, ap, ◌∙◌, subst}
+use Rattle.std.proofs.Common.{◌≡◌, None, refl, sym, ap, ◌∙◌, subst}
 use Rattle.std.specs.Prelude.{IfOk, IfErr, OnOk, Option}
 use Rattle.std.specs.FinMap as map
-use Rattle.state_model.specs.Keys.{Key}
-use Rattle.coll_state.specs.Rows.{state_of}
 use Rattle.coll_state.specs.Stock.{named}
 use Rattle.index_build.specs.declared.fault.CountFault.{CountFault}
 use Rattle.index_build.specs.Counting.{held}
