@@ -1,7 +1,6 @@
 -- A unique index holds on.
-use Rattle.std.proofs.Common.{◌≡◌, ℕ, List, [], ◌∷◌, Bool, true, false, cond, not, refl, sym, ap, ◌∙◌, subst, Option, Some, None, inl, inr}
+use Rattle.std.proofs.Common.{◌≡◌, ℕ, List, [], ◌∷◌, Bool, true, false, cond, not, refl, sym, ap, ◌∙◌, Some, None, inl, inr}
 use Rattle.std.specs.Prelude.{◌⊎◌, ◌&&◌, ◌||◌, if◌then◌else◌}
-use Rattle.std.specs.List.{list_any}
 use Rattle.std.specs.Str.{bytes_eq}
 use Rattle.std.specs.Cmp.Lexicographic.{texts_ties}
 use Rattle.std.specs.FinMap as map
@@ -11,7 +10,7 @@ use Rattle.state_model.proofs.Keys.{key_is, key_refl}
 use Rattle.state_model.proofs.Maps.{key_at_insert, key_at_remove}
 use Rattle.index_build.specs.Faults.{meet}
 use Rattle.index_build.specs.Laws.{StaysApart, ApartWithout}
-use Rattle.index_build.specs.Owned.{Owned, other_has, first_other, IsApart}
+use Rattle.index_build.specs.Owned.{Owned, other_has, first_other}
 use Rattle.index_build.specs.Owners.{Texts, has}
 use Rattle.index_build.specs.Repeats.{first_where}
 use Rattle.index_build.proofs.Repeated.{both_have}

@@ -1,25 +1,22 @@
 -- An index kept up step by step is one that is built over the documents that are in.
-use Rattle.std.proofs.Common.{◌≡◌, ℕ, ◌+◌, List, [], ◌∷◌, ◌++◌, length, map as each, Bool, true, false, cond, not, refl, sym, ap, ◌∙◌, subst, arith, Option, Some, None, inl, inr}
-use Rattle.std.specs.Prelude.{◌⊎◌, ◌&&◌, ◌||◌, option_map, is_some, T, fold, if◌then◌else◌}
-use Rattle.std.specs.List.{list_any}
-use Rattle.std.specs.Ordering.{eq_by_cmp, is_eq, is_lt}
+use Rattle.std.proofs.Common.{◌≡◌, ◌+◌, List, [], ◌∷◌, length, map as each, Bool, true, false, cond, refl, sym, ap, ◌∙◌, subst, Option, Some, None, inl, inr}
+use Rattle.std.specs.Prelude.{◌⊎◌, ◌&&◌, option_map, T, fold}
+use Rattle.std.specs.Ordering.{is_eq, is_lt}
 use Rattle.std.specs.declared.cmp.Ordering.{Ordering}
 use Rattle.std.specs.declared.cmp.Ordering.TheVariants.{Less, Equal, Greater}
 use Rattle.std.specs.FinMap as map
 use Rattle.std.specs.FinMap.Entries.{below_all}
 use Rattle.std.proofs.lemmas.Bool.{cases_Bool}
 use Rattle.state_model.specs.Keys.{Key, key_cmp, same_key}
-use Rattle.state_model.proofs.Keys.{key_total, key_is, key_turn, key_refl}
+use Rattle.state_model.proofs.Keys.{key_is}
 use Rattle.state_model.proofs.Maps.{key_map_same, key_at_insert, key_at_remove}
 use Rattle.index_keys.specs.declared.plan.Plan.{Plan}
 use Rattle.index_keys.specs.Keys.{Fields, Docs}
 use Rattle.index_keys.specs.Texts.{key_texts}
-use Rattle.index_build.specs.Faults.{meet}
-use Rattle.index_build.specs.Laws.{Stored, index_over, BuiltEmpty, BuiltWith, BuiltWithout, BuildsAreCounted, StaysApart, ApartWithout}
+use Rattle.index_build.specs.Laws.{Stored, index_over, BuiltEmpty, BuiltWith, BuiltWithout, BuildsAreCounted}
 use Rattle.index_build.specs.Numbers.{pair_count}
-use Rattle.index_build.specs.Owned.{Owned, put_document, build, pairs_in, texts_count, other_has, first_other, IsApart}
+use Rattle.index_build.specs.Owned.{Owned, put_document, texts_count}
 use Rattle.index_build.specs.Owners.{Texts}
-use Rattle.index_build.specs.Repeats.{first_where}
 
 -- ---- what a build has under a key
 

@@ -10,7 +10,7 @@ use Rattle.index_keys.specs.Texts.{key_texts}
 use Rattle.index_build.specs.declared.fault.CountFault.{CountFault}
 use Rattle.index_build.specs.declared.fault.CountFault.TheVariants as faults
 use Rattle.index_build.specs.declared.owners.Repeats.{Repeats}
-use Rattle.index_build.specs.Faults.{first_parallel, duplicate, duplicate_if, parallel_fault, duplicate_fault, plan_fault, or_else, IsCountFault}
+use Rattle.index_build.specs.Faults.{first_parallel, duplicate_if, parallel_fault, duplicate_fault, plan_fault, or_else, IsCountFault}
 use Rattle.index_build.specs.Numbers.{pair_count}
 use Rattle.index_build.specs.Owners.{Texts}
 use Rattle.bson_view.specs.declared.held.Held.{Held}

@@ -7,3 +7,4 @@ pub mod Owned
 pub mod Told
 pub mod Built
 pub mod Apart
+pub mod Alike

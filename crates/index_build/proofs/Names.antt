@@ -1,7 +1,7 @@
 -- Counted numbers stand by the names of their indexes, and a search finds them there.
 use Rattle.std.proofs.Common.{◌≡◌, ℕ, List, [], ◌∷◌, map as each, Bool, true, false, cond, refl, sym, ap, ◌∙◌, subst, Option, Some, None}
-use Rattle.std.specs.Prelude.{⊤, ◌&&◌, option_map, T, if◌then◌else◌}
-use Rattle.std.specs.Ordering.{is_lt, is_eq, eq_by_cmp}
+use Rattle.std.specs.Prelude.{◌&&◌, option_map, T}
+use Rattle.std.specs.Ordering.{is_lt}
 use Rattle.std.specs.declared.cmp.Ordering.{Ordering}
 use Rattle.std.specs.declared.cmp.Ordering.TheVariants.{Less, Equal, Greater}
 use Rattle.std.specs.FinMap as map
@@ -15,9 +15,8 @@ use Rattle.state_model.proofs.Keys.{key_total, key_anti, key_turn, ns_total, ns_
 use Rattle.coll_state.specs.Order.{AllAbove, Behind, IsOrdered, found}
 use Rattle.coll_state.specs.Stock.{AllAfter, Rise, beside}
 use Rattle.coll_state.proofs.Keyed.{rise_ordered}
-use Rattle.index_keys.specs.Keys.{Fields}
 use Rattle.index_build.specs.Documents.{documents}
-use Rattle.index_build.specs.Numbers.{number, numbers_of, numbers_in, counts, joined, number_in, number_at}
+use Rattle.index_build.specs.Numbers.{number, numbers_in, counts, joined, number_in, number_at}
 use Rattle.index_build.specs.Sorted.{NumbersVec, numbers_told, index_name, space_name, AllRise, AreByName}
 
 -- ---- names that rise

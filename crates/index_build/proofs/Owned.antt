@@ -1,15 +1,14 @@
 -- Entries by their keys are a finite map.
-use Rattle.std.proofs.Common.{◌≡◌, ℕ, ◌+◌, ◌≤◌, List, [], ◌∷◌, map as each, Bool, true, false, cond, refl, sym, ap, ◌∙◌, subst, arith, Option, Some, None, set}
+use Rattle.std.proofs.Common.{◌≡◌, ℕ, ◌+◌, ◌≤◌, List, [], ◌∷◌, Bool, true, false, cond, refl, sym, ap, ◌∙◌, subst, arith, Option, Some, None, set}
 use Rattle.std.specs.Prelude.{◌&&◌, option_map, is_some, T, min, if◌then◌else◌, slice_index_or}
 use Rattle.std.specs.List.{insert, remove}
-use Rattle.std.specs.Ordering.{eq_by_cmp}
 use Rattle.std.specs.FinMap as map
 use Rattle.std.specs.FinMap.Entries.{below_all}
 use Rattle.std.specs.declared.cmp.Ordering.{Ordering}
 use Rattle.state_model.specs.Keys.{Key, key_cmp, same_key}
 use Rattle.state_model.proofs.Keys.{key_total, key_anti, key_turn}
 use Rattle.state_model.proofs.Maps.{key_map_same, key_at_insert, key_at_remove, key_remove_same}
-use Rattle.coll_state.specs.Order.{IsOrdered, found, put_in, set_in, take_out, IsFound, IsGap}
+use Rattle.coll_state.specs.Order.{IsOrdered, found, set_in, take_out, IsFound, IsGap}
 use Rattle.coll_state.specs.Stock.{AllAfter, Rise, beside}
 use Rattle.coll_state.proofs.Order.{put_at, set_at, take_at}
 use Rattle.coll_state.proofs.Keyed.{rise_ordered, found_put, found_set, found_take, rise_put, rise_set, rise_take}
@@ -18,7 +17,7 @@ use Rattle.index_build.specs.Entries.{entry_key, owned_of, owned_in}
 use Rattle.index_keys.specs.declared.plan.Plan.{Plan}
 use Rattle.index_keys.specs.Keys.{Fields, parallel}
 use Rattle.index_keys.specs.Texts.{key_texts}
-use Rattle.index_build.specs.Owned.{Owned, other_has, refusal_by, refusal}
+use Rattle.index_build.specs.Owned.{other_has, refusal_by, refusal}
 use Rattle.index_build.specs.Repeats.{first_where}
 use Rattle.index_build.specs.Owners.{Texts}
 

@@ -1,20 +1,19 @@
 -- Counts tell each number under its names.
-use Rattle.std.proofs.Common.{◌≡◌, ℕ, List, [], ◌∷◌, map as each, Bool, true, false, cond, refl, sym, ap, ◌∙◌, subst, Option, Some, None, inl, inr}
-use Rattle.std.specs.Prelude.{◌⊎◌, ◌||◌, option_map, is_some}
+use Rattle.std.proofs.Common.{◌≡◌, ℕ, List, [], ◌∷◌, map as each, Bool, true, false, cond, refl, sym, ap, ◌∙◌, Option, Some, None, inl, inr}
+use Rattle.std.specs.Prelude.{◌⊎◌, option_map, is_some}
 use Rattle.std.specs.List.{list_any}
-use Rattle.std.specs.Ordering.{eq_by_cmp}
 use Rattle.std.specs.FinMap as map
 use Rattle.std.proofs.lemmas.Bool.{cases_Bool}
 use Rattle.bson_value.specs.declared.namespace.NsName.{NsName}
 use Rattle.bson_value.specs.NamespaceOrder.{namespace_cmp}
 use Rattle.json_tree.specs.declared.tree.Tree.{Tree}
 use Rattle.state_model.specs.Keys.{Key, key_cmp, same_key, same_ns}
-use Rattle.state_model.specs.States.{State, Collection}
+use Rattle.state_model.specs.States.{State}
 use Rattle.state_model.proofs.Keys.{ns_is}
 use Rattle.index_keys.specs.Keys.{Fields}
 use Rattle.index_build.specs.Documents.{documents}
 use Rattle.index_build.specs.Laws.{NumbersAreTold}
-use Rattle.index_build.specs.Numbers.{number, numbers_of, numbers_in, counts, joined, number_in, number_at}
+use Rattle.index_build.specs.Numbers.{number, numbers_of, numbers_in, counts, joined, number_in}
 use Rattle.index_build.proofs.Names.{counted}
 
 abbrev Found : Type 0

@@ -1,18 +1,18 @@
 -- Walks over the collections of a state, their definitions and documents.
-use Rattle.std.proofs.Common.{◌≡◌, ℕ, List, [], ◌∷◌, ◌++◌, map as each, Bool, refl, sym, ap, ◌∙◌, subst, append_assoc, Option, Some, None}
+use Rattle.std.proofs.Common.{◌≡◌, List, [], ◌∷◌, ◌++◌, map as each, refl, sym, ap, ◌∙◌, subst, append_assoc, Option, Some, None}
 use Rattle.std.specs.Prelude.{◌&&◌, option_map, T}
 use Rattle.std.specs.Ordering.{is_lt}
 use Rattle.std.specs.FinMap as map
 use Rattle.std.specs.FinMap.Entries.{below_all}
 use Rattle.bson_value.specs.declared.namespace.NsName.{NsName}
-use Rattle.bson_value.specs.declared.value.Value.{Value, Object}
+use Rattle.bson_value.specs.declared.value.Value.{Object}
 use Rattle.bson_value.specs.declared.value.Value.TheVariants.{outs-Object}
 use Rattle.bson_value.specs.NamespaceOrder.{namespace_cmp}
 use Rattle.bson_view.specs.declared.held.Held.{Held}
 use Rattle.bson_view.specs.Held.{held_document}
 use Rattle.json_tree.specs.declared.tree.Tree.{Tree}
 use Rattle.state_model.specs.Keys.{Key, key_cmp}
-use Rattle.state_model.specs.States.{State, Collection}
+use Rattle.state_model.specs.States.{Collection}
 use Rattle.state_model.proofs.Keys.{ns_total}
 use Rattle.state_model.proofs.Maps.{ns_map_same}
 use Rattle.coll_state.specs.Definitions.{definition_name}
@@ -21,11 +21,10 @@ use Rattle.coll_state.specs.Rows.{Table, Rows, collection_of, collections_of, st
 use Rattle.coll_state.specs.Stock.{named}
 use Rattle.coll_state.proofs.Links.{get_collection}
 use Rattle.index_keys.specs.Keys.{Fields}
-use Rattle.index_build.specs.declared.fault.CountFault.{CountFault}
 use Rattle.index_build.specs.Counting.{held, held_values}
 use Rattle.index_build.specs.Documents.{fields, fields_at, documents}
-use Rattle.index_build.specs.Faults.{definitions_fault, collection_fault, fault_among, fault, or_else}
-use Rattle.index_build.specs.Numbers.{numbers_of, numbers_in, counts, Numbers}
+use Rattle.index_build.specs.Faults.{definitions_fault, collection_fault}
+use Rattle.index_build.specs.Numbers.{numbers_of, numbers_in}
 
 -- ---- documents
 
@@ -113,3 +112,21 @@ one_made g done x left all e = append_assoc done (g x ∷ []) (each g left) ∙ 
 pub all_made : {B : Type 0} (done : List B) → done ++ [] ≡ done
 all_made [] = refl
 all_made (x ∷ done) = ap (λ l. x ∷ l) (all_made done)
+
+no_entries : (es : List (Key × Tree)) → [] ≡ each (λ (e : Key × Tree). e.1) es → es ≡ []
+no_entries [] e = refl
+no_entries (x ∷ es) e = cc
+
+-- a collection without definitions
+pub collection_bare : (s : Rows) (n : NsName) (defs : List Tree) (o : Option Table) → defs ≡ [] → map.get s.tables n ≡ o → Some defs ≡ option_map (λ (t : Table). map.values t.indexes) o →
+    (numbers_in (map.get (state_of s) n) ≡ []) × (collection_fault n (map.get (state_of s) n) ≡ None)
+collection_bare s n defs None b g e = absurd (nothing e)
+  where
+    nothing : Some defs ≡ None → ⊥
+    nothing e = cc
+collection_bare s n defs (Some t) b g e =
+    let there : map.get (state_of s) n ≡ Some (collection_of t) = get_collection s n ∙ ap (option_map collection_of) g in
+    let none : map.entries t.indexes ≡ [] = no_entries (map.entries t.indexes) (sym b ∙ some_list defs (map.values t.indexes) e) in (
+      ap numbers_in there ∙ ap (λ (es : List (Key × Tree)). numbers_of es (documents (collection_of t))) none,
+      ap (collection_fault n) there ∙ ap (λ (es : List (Key × Tree)). definitions_fault n es (documents (collection_of t))) none,
+    )

@@ -1,5 +1,5 @@
 -- The documents of a collection, in the order of the keys of their _ids.
-use Rattle.std.specs.Prelude.{ℕ, List, [], map as each, Option, Some, None}
+use Rattle.std.specs.Prelude.{List, [], map as each, Option, Some, None}
 use Rattle.std.specs.FinMap as map
 use Rattle.bson_value.specs.declared.value.Value.{Value, Value-F, Null, out-Value}
 use Rattle.state_model.specs.States.{Collection}

@@ -1,14 +1,15 @@
 -- The laws of counts and of indexes.
-use Rattle.std.specs.Prelude.{◌≡◌, List, map as each, Some, None}
+use Rattle.std.specs.Prelude.{◌≡◌, Some, None, is_some}
 use Rattle.std.specs.FinMap as map
 use Rattle.bson_value.specs.declared.namespace.NsName.{NsName}
 use Rattle.json_tree.specs.declared.tree.Tree.{Tree}
 use Rattle.state_model.specs.Keys.{Key, key_cmp}
 use Rattle.state_model.specs.States.{State, Collection}
+use Rattle.state_model.specs.Agreement.{SameStates}
 use Rattle.index_keys.specs.declared.plan.Plan.{Plan}
 use Rattle.index_keys.specs.Keys.{Fields}
-use Rattle.index_keys.specs.Texts.{key_texts}
 use Rattle.index_build.specs.Documents.{documents}
+use Rattle.index_build.specs.Faults.{fault}
 use Rattle.index_build.specs.Numbers.{pair_count, number, number_at, counts}
 use Rattle.index_build.specs.Owned.{Owned, put_document, build, pairs_in, first_other, IsApart}
 use Rattle.index_build.specs.Owners.{Texts}
@@ -45,3 +46,10 @@ StaysApart = (m : Owned) (k : Key) (ts : Texts) → IsApart m → first_other k 
 
 abbrev pub ApartWithout : Type 0
 ApartWithout = (m : Owned) (k : Key) → IsApart m → IsApart (map.remove m k)
+
+-- states that are equal up to the order of fields have the same numbers, and a fault in both or in neither
+abbrev pub SameCounts : Type 0
+SameCounts = (a b : State) → SameStates a b → counts a ≡ counts b
+
+abbrev pub SameFaults : Type 0
+SameFaults = (a b : State) → SameStates a b → is_some (fault a) ≡ is_some (fault b)

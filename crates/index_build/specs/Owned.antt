@@ -11,7 +11,7 @@ use Rattle.index_keys.specs.contracts.plan.Plan as plans
 use Rattle.index_keys.specs.Keys.{Fields, Docs, parallel}
 use Rattle.index_keys.specs.Texts.{key_texts}
 use Rattle.index_build.specs.Faults.{meet}
-use Rattle.index_build.specs.Owners.{Texts, has}
+use Rattle.index_build.specs.Owners.{Texts}
 use Rattle.index_build.specs.Repeats.{first_where}
 use Rattle.index_build.specs.declared.index_fault.IndexFault.{IndexFault}
 use Rattle.index_build.specs.declared.index_fault.IndexFault.TheVariants as faults

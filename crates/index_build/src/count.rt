@@ -206,6 +206,9 @@ fn count_collection(alloc: Global, state: &State, ns: &NsName) -> Result<Numbers
     match state.indexes(ns) {
         None => Ok(Vec::new(alloc)),
         Some(defs) => {
+            if defs.is_empty() {
+                return Ok(Vec::new(alloc));
+            }
             let docs = documents(alloc, state, ns)?;
             count_definitions(alloc, ns, defs.as_slice(), docs.as_slice())
         }

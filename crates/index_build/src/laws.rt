@@ -1,5 +1,15 @@
 //! The laws of counts and of indexes. Each function does nothing, and its caller learns the law.
-ghost use Rattle.index_build.specs.Laws.{NumbersAreTold, BuiltEmpty, BuiltWith, BuiltWithout, BuildsAreCounted, StaysApart, ApartWithout};
+ghost use Rattle.index_build.specs.Laws.{SameCounts, SameFaults, NumbersAreTold, BuiltEmpty, BuiltWith, BuiltWithout, BuildsAreCounted, StaysApart, ApartWithout};
+
+use state_model::same_is_shown_alike;
+
+/// States that are equal up to the order of fields have the same numbers, and a fault in both or in neither.
+pub fn same_states()
+    ensures counts { SameCounts }
+    ensures faults { SameFaults }
+{
+    same_is_shown_alike();
+}
 
 /// The number that counts tell of an index is that of its definition over the documents of its collection.
 #[tactic(auto, using(crate::proofs::Told::numbers_are_told))]

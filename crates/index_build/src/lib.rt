@@ -18,5 +18,5 @@ pub use counts::{Counts, Numbers};
 pub use fault::CountFault;
 pub use index::Index;
 pub use index_fault::IndexFault;
-pub use laws::{holds_on, kept_is_built, numbers_are_told};
+pub use laws::{holds_on, kept_is_built, numbers_are_told, same_states};
 pub use swap::Swap;

@@ -1,8 +1,9 @@
 //! Numbers of pairs in worked states, and their first faults.
 use bson_value::{Doc, NsName, Value};
+use bson_view::Held;
 use coll_state::{COUNT_LIMIT, State};
 use extjson::{tree_of, value_of};
-use index_build::{CountFault, Counts, count_all};
+use index_build::{CountFault, Counts, Numbers, count_all, count_definitions};
 use index_keys::normal;
 use json_text::{parse, print};
 use std::alloc::Global;
@@ -273,5 +274,30 @@ s.c doc {"_id":4,"k":{"$numberLong":"1"}}
 #[test]
 fn a_unique_index_holds(rt: HostRuntime) -> Result<(), Fail> {
     assert!(rt; has_fault(rt.alloc(), APART, "none")?);
+    Ok(())
+}
+
+fn numbers(answer: Result<Numbers, CountFault>) -> Result<Numbers, Fail> {
+    match answer {
+        Ok(numbers) => Ok(numbers),
+        Err(_) => Err("a fault")?,
+    }
+}
+
+#[test]
+fn definitions_of_one_collection_are_counted(rt: HostRuntime) -> Result<(), Fail> {
+    let alloc = rt.alloc();
+    let ns = namespace(alloc, "s.c")?;
+    let text = r#"{"key":{"a":1},"name":"a_1"}"#;
+    let mut defs = Vec::new(alloc);
+    defs.push(normal(alloc, &parse(alloc, text)?)?.ok_or("no definition")?)?;
+    let doc = document(alloc, r#"{"a":[1,2]}"#)?;
+    let mut docs = Vec::new(alloc);
+    docs.push(Held::Built(&doc))?;
+    let numbers = numbers(count_definitions(alloc, &ns, defs.as_slice(), docs.as_slice()))?;
+    let entry = numbers.first().ok_or("no number")?;
+    assert!(rt; numbers.len() == 1);
+    assert!(rt; entry.0.as_str() == "a_1");
+    assert!(rt; entry.1 == Some(2));
     Ok(())
 }

@@ -89,7 +89,7 @@ add ok 3 {"_id":2,"k":[0,2]}
 add ok 4 {"_id":"a","k":{"x":1,"y":2}}
 test duplicate "a" {"$numberInt":"3"} 4 {"_id":3,"k":{"y":2,"x":1}}
 test duplicate "a" {"$numberInt":"3"} 4 {"_id":3,"k":[2,{"y":2,"x":1}]}
-test duplicate {"$numberInt":"1"} {"$numberInt":"3"} 4 {"_id":3,"k":[2,[]]}
+test duplicate {"$numberInt":"2"} {"$numberInt":"3"} 4 {"_id":3,"k":[2,[]]}
 test duplicate {"$numberInt":"1"} {"$numberInt":"0"} 4 {"_id":0,"k":[]}
 out ok 2 {"_id":2}
 add ok 5 {"_id":3,"k":[5,2,0]}

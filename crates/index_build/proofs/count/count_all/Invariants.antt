@@ -1,5 +1,4 @@
-use Rattle.std.proofs.Common.{◌≡◌, ◌++◌, length, map as each}
-use Rattle.std.specs.FinMap as map
+use Rattle.std.proofs.Common.{◌≡◌, ◌++◌, map as each}
 use Rattle.coll_state.specs.Rows.{state_of}
 use Rattle.coll_state.specs.Walks.{names_left}
 use Rattle.index_build.specs.Faults.{fault_among, fault}

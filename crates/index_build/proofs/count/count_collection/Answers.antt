@@ -1,14 +1,12 @@
-use Rattle.std.proofs.Common.{◌≡◌, None, List, refl, sym, ap, ◌∙◌, subst}
+use Rattle.std.proofs.Common.{◌≡◌, None, refl, sym, ap, ◌∙◌, subst}
 use Rattle.std.specs.Prelude.{IfOk, IfErr, OnOk, Option}
 use Rattle.std.specs.FinMap as map
-use Rattle.state_model.specs.Keys.{Key}
-use Rattle.coll_state.specs.Rows.{state_of}
 use Rattle.coll_state.specs.Stock.{named}
 use Rattle.index_build.specs.declared.fault.CountFault.{CountFault}
 use Rattle.index_build.specs.Counting.{held}
 use Rattle.index_build.specs.Faults.{definitions_fault, collection_fault, IsCountFault}
 use Rattle.index_build.specs.Numbers.{numbers_of, numbers_in}
-use Rattle.index_build.proofs.Walks.{collection_there, collection_absent}
+use Rattle.index_build.proofs.Walks.{collection_there, collection_absent, collection_bare}
 use Rattle.index_build.proofs.count.count_collection.Goals as goal
 
 pub returns-in-None-clause-numbers : goal.returns-in-None-clause-numbers
@@ -31,3 +29,11 @@ pub returns-in_ok-docs-in-Some-clause-fault : goal.returns-in_ok-docs-in-Some-cl
 returns-in_ok-docs-in-Some-clause-fault c =
     let there = collection_there c.args.state.now c.args.ns.now c.in-Some.defs.now c.in_ok-docs-in-Some.docs.items (map.get c.args.state.now.tables c.args.ns.now) refl c.in-Some.ensures.definitions c.in-Some.ensures.names c.in_ok-docs-in-Some.ensures in
     subst (λ (z : Option CountFault). IfErr c.count_definitions.result (λ e. IsCountFault e z)) ((λ i. definitions_fault c.args.ns.now (named (c.as_slice.ensures i)) (held (c.as_slice-in-Some.ensures.value i))) ∙ there.fault) c.count_definitions.ensures.fault
+
+pub returns-then-is_empty-clause-numbers : goal.returns-then-is_empty-clause-numbers
+returns-then-is_empty-clause-numbers c =
+    c.new-then-is_empty.ensures.items ∙ sym (collection_bare c.args.state.now c.args.ns.now c.in-Some.defs.now (map.get c.args.state.now.tables c.args.ns.now) (c.is_empty.ensures.0 c.if-is_empty.true) refl c.in-Some.ensures.definitions).0
+
+pub returns-then-is_empty-clause-faultless : goal.returns-then-is_empty-clause-faultless
+returns-then-is_empty-clause-faultless c =
+    (collection_bare c.args.state.now c.args.ns.now c.in-Some.defs.now (map.get c.args.state.now.tables c.args.ns.now) (c.is_empty.ensures.0 c.if-is_empty.true) refl c.in-Some.ensures.definitions).1

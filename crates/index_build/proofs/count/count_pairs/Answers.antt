@@ -2,7 +2,7 @@ use Rattle.std.proofs.Common.{List, sym, ap, ◌∙◌, ◌+◌, length, subst, 
 use Rattle.std.specs.Prelude.{is_some}
 use Rattle.bson_view.specs.declared.held.Held.{Held}
 use Rattle.bson_view.specs.Held.{held_document}
-use Rattle.index_keys.specs.Keys.{Fields, parallel}
+use Rattle.index_keys.specs.Keys.{parallel}
 use Rattle.index_keys.specs.Texts.{key_texts}
 use Rattle.index_build.specs.Counting.{held}
 use Rattle.index_build.specs.Faults.{first_parallel}

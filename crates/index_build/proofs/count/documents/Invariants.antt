@@ -1,4 +1,4 @@
-use Rattle.std.proofs.Common.{◌≡◌, ◌++◌, length}
+use Rattle.std.proofs.Common.{◌≡◌, ◌++◌}
 use Rattle.index_build.specs.Counting.{held_values}
 use Rattle.index_build.proofs.count.documents.Given as goal
 

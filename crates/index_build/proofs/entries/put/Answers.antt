@@ -1,4 +1,4 @@
-use Rattle.std.proofs.Common.{◌≡◌, List, set, sym, ap, ◌∙◌, subst}
+use Rattle.std.proofs.Common.{set, sym, ap, ◌∙◌, subst}
 use Rattle.state_model.specs.Keys.{key_cmp}
 use Rattle.coll_state.specs.Stock.{Rise}
 use Rattle.index_build.specs.declared.entry.Entry.{Entry}

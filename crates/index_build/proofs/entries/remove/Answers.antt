@@ -1,4 +1,4 @@
-use Rattle.std.proofs.Common.{◌≡◌, List, sym, ap, ◌∙◌, subst}
+use Rattle.std.proofs.Common.{sym, ap, ◌∙◌, subst}
 use Rattle.state_model.specs.Keys.{key_cmp}
 use Rattle.coll_state.specs.Stock.{Rise}
 use Rattle.index_build.specs.Entries.{entry_key, owned_in}

@@ -1,4 +1,4 @@
-use Rattle.std.proofs.Common.{sym, ap, ◌∙◌, take_all}
+use Rattle.std.proofs.Common.{ap, ◌∙◌, take_all}
 use Rattle.index_build.specs.Faults.{meet}
 use Rattle.index_build.specs.Owners.{place_where}
 use Rattle.index_build.proofs.Repeated.{no_owner, next_owner}

@@ -1,5 +1,4 @@
-use Rattle.std.proofs.Common.{◌≡◌, ℕ, List, Bool, true, false, Option, Some, None, refl, sym, ap, ◌∙◌}
-use Rattle.std.specs.Prelude.{is_some}
+use Rattle.std.proofs.Common.{refl, sym, ap, ◌∙◌}
 use Rattle.coll_state.proofs.Parts.{on_ok}
 use Rattle.index_build.specs.Faults.{meet}
 use Rattle.index_build.specs.Owners.{place_where}
