@@ -1,1 +1,4 @@
 pub mod SameValues
+pub mod MarkTerms
+pub mod MarkTheory
+pub mod StepTheory
