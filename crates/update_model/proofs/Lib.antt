@@ -2,3 +2,4 @@ pub mod SameValues
 pub mod MarkTerms
 pub mod MarkTheory
 pub mod StepTheory
+pub mod ActSteps

@@ -112,7 +112,7 @@ placed_child v n m a s h =
     (child-put v (digits n) (digits m) a ∙ (ap (λ (i : Option ℕ). child_in (put_in (out-Value v) (digits n) i a) (digits m) (index_of (digits m))) (index_of-digits n) ∙ ap (λ (i : Option ℕ). child_in (put_in (out-Value v) (digits n) (Some n) a) (digits m) i) (index_of-digits m)))
     (placed_in (out-Value v) (digits n) (digits m) n m a s h)
 
-array_taken : (n : ℕ) (s : Shape) → takes V2 (index n) s ≡ true → (s ≡ an_array) × (n < limit)
+pub array_taken : (n : ℕ) (s : Shape) → takes V2 (index n) s ≡ true → (s ≡ an_array) × (n < limit)
 array_taken n an_array t = (refl, grind (arith, common_steps))
 array_taken n an_object t = cc
 array_taken n (a_leaf c) t = cc
