@@ -3,3 +3,4 @@ pub mod MarkTerms
 pub mod MarkTheory
 pub mod StepTheory
 pub mod ActSteps
+pub mod ActsGo
