@@ -4,3 +4,4 @@ pub mod MarkTheory
 pub mod StepTheory
 pub mod ActSteps
 pub mod ActsGo
+pub mod Recording

@@ -6,7 +6,8 @@ use Rattle.bson_value.specs.Place.{Place}
 use Rattle.doc_path.specs.declared.parts.Part.{Part}
 use Rattle.doc_path.specs.declared.touches.Touch.{Touch}
 use Rattle.doc_path.specs.declared.touches.Touch.TheVariants.{Set, Unset, Resize}
-use Rattle.doc_path.specs.Touch.{key_of, below, from_key, limit}
+use Rattle.doc_path.specs.Touch.{limit, Touch as Played}
+use Rattle.doc_path.specs.Touch as played
 use Rattle.doc_path.specs.Places.{keys}
 use Rattle.doc_path.specs.Ways.{value_in}
 use Rattle.update_model.specs.Conflicts.{begins}
@@ -72,3 +73,11 @@ touch_of z m = touch_by m (value_in (parts_of m) z)
 -- z is the document after the update
 abbrev pub touches : Value → List Mark → List Touch
 touches z ms = map (touch_of z) (touched ms)
+
+-- the same with a Set of the whole array in place of a length, as what is played
+abbrev pub whole_by : Mark → Option Value → Played
+whole_by m None = played.Unset m.way m.last
+whole_by m (Some a) = played.Set m.way m.last a
+
+abbrev pub whole_touches : Value → List Mark → List Played
+whole_touches z ms = map (λ m. whole_by m (value_in (parts_of m) z)) (touched ms)
