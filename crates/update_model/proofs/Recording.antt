@@ -1,11 +1,12 @@
 -- The highest places that an update changed, each once, record it.
 use Rattle.std.proofs.Common.{◌≡◌, ℕ, List, [], ◌∷◌, ◌++◌, Bool, true, false, refl, sym, ap, ◌∙◌, subst, arith, inl, inr, map, Option, Some, None}
-use Rattle.std.specs.Prelude.{◌||◌, ◌&&◌, if◌then◌else◌}
+use Rattle.std.specs.Prelude.{◌||◌, ◌&&◌, if◌then◌else◌, Ok, Err}
 use Rattle.std.specs.List.{list_any}
 use Rattle.std.specs.Str.{bytes_eq}
 use Rattle.std.proofs.lemmas.Bool.{cases_Bool, and_parts}
-use Rattle.bson_value.specs.declared.value.Value.{Value}
-use Rattle.bson_value.specs.Place.{Place, Shape, a_leaf, an_array, an_object, a_code, shape, child}
+use Rattle.bson_value.specs.declared.value.Value.{Value, Value-F, Object, out-Value, roll-Value, roll-out-Value}
+use Rattle.bson_value.specs.declared.value.Value.TheVariants.{rolls-Object}
+use Rattle.bson_value.specs.Place.{Place, Shape, a_leaf, an_array, an_object, a_code, shape_in, shape, child}
 use Rattle.bson_value.proofs.Child.{same_name, name_refl}
 use Rattle.doc_path.specs.declared.parts.Part.{Part}
 use Rattle.doc_path.specs.declared.parts.Part.TheVariants.{Name as name, Index as index}
@@ -18,9 +19,21 @@ use Rattle.update_model.specs.declared.mark.Mark.{Mark}
 use Rattle.update_model.specs.Conflicts.{begins}
 use Rattle.update_model.specs.Steps.{Trace, after, marks_of}
 use Rattle.update_model.specs.Touched as spec
-use Rattle.update_model.specs.Touched.{parts_of, place_of, stands_in, firsts, touched, whole_by, whole_touches}
+use Rattle.update_model.specs.Touched.{parts_of, place_of, stands_in, firsts, touched, touches, whole, whole_at}
 use Rattle.update_model.proofs.MarkTerms.{mark_covers, any_mark, tops, at_keys, Ready, Stands, Steps as AreSteps, touch_by, touch_of, touches_of}
-use Rattle.update_model.proofs.MarkTheory.{In, touches_cover, tops_in, tops_false, top_stands, update_records}
+use Rattle.update_model.specs.Arguments.{Fields}
+use Rattle.update_model.specs.declared.updated.Updated.{Updated}
+use Rattle.update_model.specs.Updating.{fields_in, fields_of, Outcome, outcome, updated_by, updated}
+use Rattle.update_model.specs.Laws.{UpdateIsRecorded}
+use Rattle.update_model.proofs.ActsGo.{Traced, outcome_traced}
+use Rattle.update_model.proofs.MarkTheory.{In, touches_cover, tops_in, tops_false, top_stands, update_records, steps_frame}
+use Rattle.doc_path.specs.Played.{touch_at}
+use Rattle.doc_path.specs.declared.parts.Change.TheVariants.{Put, Delete}
+use Rattle.doc_path.proofs.Last.{split-append}
+use Rattle.doc_path.proofs.Cover.{root_below}
+use Rattle.doc_path.proofs.Steps.{shape-object}
+use Rattle.bson_value.proofs.Alike.{object_in}
+use Rattle.touch_laws.proofs.Replay.{same_shape}
 use Rattle.update_model.proofs.StepTheory.{or_parts_false}
 
 -- ---- places
@@ -141,18 +154,52 @@ value_at_mark (q ∷ ws) p v w =
     ap (λ (o : Option Value). value_from o (ws ++ (p ∷ []))) (under_taken q v w.0 ∙ w.2)
     ∙ (value_at_mark ws p w.1 w.3 ∙ ap (λ (o : Option Value). at_keys o (keys ws ++ (key_of p ∷ []))) (sym w.2))
 
-whole_is : (m : Mark) (o : Option Value) → whole_by m o ≡ touch_by m o
-whole_is m None = refl
-whole_is m (Some a) = refl
+as_whole : (z : Value) (m : Mark) (a : Value) (n : Option ℕ) → value_in (parts_of m) z ≡ Some a → whole z (spec.set_or_cut m a n) ≡ touch_at (parts_of m) (Put a)
+as_whole z m a None e = refl
+as_whole z m a (Some n) e = ap (whole_at (parts_of m) n) e
 
-wholes_are : (z : Value) (ms : List Mark) → ((m : Mark) → In m ms → Stands m z) → map (λ (m : Mark). whole_by m (value_in (parts_of m) z)) ms ≡ touches_of z ms
+whole_by : (z : Value) (m : Mark) (o : Option Value) → value_in (parts_of m) z ≡ o → whole z (spec.touch_by m o) ≡ touch_by m o
+whole_by z m None e = split-append m.way m.last Delete
+whole_by z m (Some a) e = as_whole z m a (spec.cut_to_length m.made a) e ∙ split-append m.way m.last (Put a)
+
+wholes_are : (z : Value) (ms : List Mark) → ((m : Mark) → In m ms → Stands m z) → map (whole z) (map (spec.touch_of z) ms) ≡ touches_of z ms
 wholes_are z [] h = refl
 wholes_are z (m ∷ ms) h =
-    (λ i. (ap (whole_by m) (value_at_mark m.way m.last z (h m (inl refl))) ∙ whole_is m (at_keys (Some z) (keys m.way ++ (key_of m.last ∷ [])))) i ∷ wholes_are z ms (λ n g. h n (inr g)) i)
+    (λ i. (whole_by z m (value_in (parts_of m) z) refl ∙ ap (touch_by m) (value_at_mark m.way m.last z (h m (inl refl)))) i ∷ wholes_are z ms (λ n g. h n (inr g)) i)
 
 -- the touches of an update, with whole arrays, record it
-pub whole_records : (ss : Trace) (v : Value) → AreSteps v ss (after v ss) → Records V2 (whole_touches (after v ss) (marks_of ss)) v (after v ss)
+pub whole_records : (ss : Trace) (v : Value) → AreSteps v ss (after v ss) → Records V2 (map (whole (after v ss)) (touches (after v ss) (marks_of ss))) v (after v ss)
 whole_records ss v s =
     let z = after v ss in
     let ms = marks_of ss in
     subst (λ (ts : List Touch). Records V2 ts v z) (sym (wholes_are z (touched ms) (λ m i. let h = touched_in ms m i in top_stands ss v z m s h.0 h.1))) (touched_records ss v z s)
+
+-- ---- the document after an accepted update is a document
+
+no_root : (ms : List Mark) → any_mark ms [] ≡ false
+no_root [] = refl
+no_root (m ∷ ms) = rw (root_below m.way (from_key (key_of m.last)) refl, no_root ms) refl
+
+object_level : (f : Value-F Value) → an_object ≡ shape_in f → roll-Value (Value-F.Object (fields_in f)) ≡ roll-Value f
+object_level f e = let r = object_in f e in ap (λ (g : Value-F Value). roll-Value (Value-F.Object (fields_in g))) r.1 ∙ sym (ap roll-Value r.1)
+
+pub after_is_document : (ss : Trace) (doc : Fields) → AreSteps (Object doc) ss (after (Object doc) ss) → Object (fields_of (after (Object doc) ss)) ≡ after (Object doc) ss
+unfolding shape
+after_is_document ss doc s =
+    let z = after (Object doc) ss in
+    let same = same_shape z (Object doc) (steps_frame ss (Object doc) z s [] (no_root (marks_of ss))) in
+    let kind : an_object ≡ shape_in (out-Value z) = sym (same ∙ shape-object doc) in
+    sym (rolls-Object (fields_of z)) ∙ (object_level (out-Value z) kind ∙ roll-out-Value z)
+
+-- ---- the law
+
+recorded_by : (doc : Fields) (o : Outcome) (u : Updated) → Traced (Object doc) o → updated_by (Object doc) o ≡ Ok u → Records V2 (map (whole (Object u.doc)) u.touches) (Object doc) (Object u.doc)
+recorded_by doc (Err f) u t e = cc
+recorded_by doc (Ok ss) u t e =
+    let is : record { doc = fields_of (after (Object doc) ss); touches = touches (after (Object doc) ss) (marks_of ss) } ≡ u = cc in
+    subst (λ (w : Updated). Records V2 (map (whole (Object w.doc)) w.touches) (Object doc) (Object w.doc)) is
+    (subst (λ (z : Value). Records V2 (map (whole z) (touches (after (Object doc) ss) (marks_of ss))) (Object doc) z) (sym (after_is_document ss doc t)) (whole_records ss (Object doc) t))
+
+pub update_is_recorded : UpdateIsRecorded
+unfolding updated
+update_is_recorded ops doc u e = recorded_by doc (outcome ops false (Object doc)) u (outcome_traced ops false (Object doc)) e

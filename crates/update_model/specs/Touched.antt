@@ -7,7 +7,8 @@ use Rattle.doc_path.specs.declared.parts.Part.{Part}
 use Rattle.doc_path.specs.declared.touches.Touch.{Touch}
 use Rattle.doc_path.specs.declared.touches.Touch.TheVariants.{Set, Unset, Resize}
 use Rattle.doc_path.specs.Touch.{limit, Touch as Played}
-use Rattle.doc_path.specs.Touch as played
+use Rattle.doc_path.specs.Played.{touch_at}
+use Rattle.doc_path.specs.declared.parts.Change.TheVariants.{Put, Delete, Resize as Length}
 use Rattle.doc_path.specs.Places.{keys}
 use Rattle.doc_path.specs.Ways.{value_in}
 use Rattle.update_model.specs.Conflicts.{begins}
@@ -74,10 +75,12 @@ touch_of z m = touch_by m (value_in (parts_of m) z)
 abbrev pub touches : Value → List Mark → List Touch
 touches z ms = map (touch_of z) (touched ms)
 
--- the same with a Set of the whole array in place of a length, as what is played
-abbrev pub whole_by : Mark → Option Value → Played
-whole_by m None = played.Unset m.way m.last
-whole_by m (Some a) = played.Set m.way m.last a
+-- what a touch of a document is as it is played, with a Set of the whole array in place of a length
+abbrev pub whole_at : List Part → ℕ → Option Value → Played
+whole_at place n None = touch_at place (Length n)
+whole_at place n (Some a) = touch_at place (Put a)
 
-abbrev pub whole_touches : Value → List Mark → List Played
-whole_touches z ms = map (λ m. whole_by m (value_in (parts_of m) z)) (touched ms)
+abbrev pub whole : Value → Touch → Played
+whole z (Resize place n) = whole_at place n (value_in place z)
+whole z (Set place a fresh) = touch_at place (Put a)
+whole z (Unset place) = touch_at place Delete

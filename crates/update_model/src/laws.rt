@@ -1,8 +1,14 @@
 //! Laws of updates. Each function does nothing, and its caller learns the law.
-ghost use Rattle.update_model.specs.Laws.{SameIsEqual};
+ghost use Rattle.update_model.specs.Laws.{SameIsEqual, UpdateIsRecorded};
 
 /// The test by which operators compare values answers yes exactly of equal ones.
 #[tactic(auto, using(crate::proofs::SameValues::same_equal))]
 pub fn equality_is_tested()
     ensures { SameIsEqual }
+{}
+
+/// The touches of an accepted update record it, where a Set of the whole array stands for each length.
+#[tactic(auto, using(crate::proofs::Recording::update_is_recorded))]
+pub fn update_is_recorded()
+    ensures { UpdateIsRecorded }
 {}
