@@ -5,3 +5,4 @@ pub mod StepTheory
 pub mod ActSteps
 pub mod ActsGo
 pub mod Recording
+pub mod CleanActs
