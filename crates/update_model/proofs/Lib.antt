@@ -6,3 +6,5 @@ pub mod ActSteps
 pub mod ActsGo
 pub mod Recording
 pub mod CleanActs
+pub mod ReadOff
+pub mod NoneLeftAtOnce

@@ -1,5 +1,5 @@
 //! Laws of updates. Each function does nothing, and its caller learns the law.
-ghost use Rattle.update_model.specs.Laws.{SameIsEqual, UpdateIsRecorded};
+ghost use Rattle.update_model.specs.Laws.{SameIsEqual, UpdateIsRecorded, NoneIsLeftAtOnce};
 
 /// The test by which operators compare values answers yes exactly of equal ones.
 #[tactic(auto, using(crate::proofs::SameValues::same_equal))]
@@ -11,4 +11,10 @@ pub fn equality_is_tested()
 #[tactic(auto, using(crate::proofs::Recording::update_is_recorded))]
 pub fn update_is_recorded()
     ensures { UpdateIsRecorded }
+{}
+
+/// Replay leaves none of the touches of an update at once, whose operators were read from a document.
+#[tactic(auto, using(crate::proofs::NoneLeftAtOnce::none_is_left))]
+pub fn none_is_left_at_once()
+    ensures { NoneIsLeftAtOnce }
 {}
