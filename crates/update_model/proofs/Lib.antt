@@ -8,3 +8,4 @@ pub mod Recording
 pub mod CleanActs
 pub mod ReadOff
 pub mod NoneLeftAtOnce
+pub mod NoTouches

@@ -91,9 +91,9 @@ not_id_at (k ∷ ms) m n (inr h) = not_id_at ms m n.1 h
 trace_left : (ss : Trace) (v : Value) → AreSteps v ss (after v ss) → CleanTrace ss → NoneLeft (map touch_of (touches (after v ss) (marks_of ss)))
 trace_left ss v s c =
     none_left (after v ss) (touched (marks_of ss)) (λ m i.
-        let h = touched_in (marks_of ss) m i in
-        let st = top_stands ss v (after v ss) m s h.0 h.1 in
-        rw (not_id_at (marks_of ss) m (all_not_id ss c) h.0, way_far m.way m.last (after v ss) st) refl)
+    let h = touched_in (marks_of ss) m i in
+    let st = top_stands ss v (after v ss) m s h.0 h.1 in
+    rw (not_id_at (marks_of ss) m (all_not_id ss c) h.0, way_far m.way m.last (after v ss) st) refl)
 
 left_by : (doc : Fields) (o : Outcome) (u : Updated) → Traced (Object doc) o → CleanOutcome o → updated_by (Object doc) o ≡ Ok u → NoneLeft (map touch_of u.touches)
 left_by doc (Err f) u t c e = cc

@@ -192,4 +192,3 @@ drop_name v k kind o = record {
     frame : (q : Place) → any_mark (mark [] (name k) kind ∷ []) q ≡ false → look (Some (del v k)) q ≡ look (Some v) q
     frame [] e = ap Some (shape-del v k)
     frame (j ∷ q) e = off j q (or_parts_false (bytes_eq k j) false e).0
-

@@ -1,5 +1,5 @@
 -- The laws of updates.
-use Rattle.std.specs.Prelude.{◌≡◌, ◌↔◌, true, List, map, None, Ok}
+use Rattle.std.specs.Prelude.{◌≡◌, ◌↔◌, true, List, [], map, None, Ok}
 use Rattle.bson_value.specs.declared.value.Value.{Value, Object}
 use Rattle.doc_path.specs.declared.parts.Form.TheVariants.{V2}
 use Rattle.doc_path.specs.Played.{NoneLeft, touch_of}
@@ -22,3 +22,7 @@ UpdateIsRecorded = (ops : List Operator) (doc : Fields) (u : Updated) → update
 -- no touch of an update by operators that were read is left at once
 abbrev pub NoneIsLeftAtOnce : Type 0
 NoneIsLeftAtOnce = (d doc : Fields) (u : Updated) → ops_fault d ≡ None → updated (operators d) doc ≡ Ok u → NoneLeft (map touch_of u.touches)
+
+-- where such an update has no touch, the document is as before
+abbrev pub NoTouchesNoChange : Type 0
+NoTouchesNoChange = (d doc : Fields) (u : Updated) → ops_fault d ≡ None → updated (operators d) doc ≡ Ok u → u.touches ≡ [] → u.doc ≡ doc

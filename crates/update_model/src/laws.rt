@@ -1,5 +1,5 @@
 //! Laws of updates. Each function does nothing, and its caller learns the law.
-ghost use Rattle.update_model.specs.Laws.{SameIsEqual, UpdateIsRecorded, NoneIsLeftAtOnce};
+ghost use Rattle.update_model.specs.Laws.{SameIsEqual, UpdateIsRecorded, NoneIsLeftAtOnce, NoTouchesNoChange};
 
 /// The test by which operators compare values answers yes exactly of equal ones.
 #[tactic(auto, using(crate::proofs::SameValues::same_equal))]
@@ -17,4 +17,10 @@ pub fn update_is_recorded()
 #[tactic(auto, using(crate::proofs::NoneLeftAtOnce::none_is_left))]
 pub fn none_is_left_at_once()
     ensures { NoneIsLeftAtOnce }
+{}
+
+/// Where such an update has no touch, the document is as before.
+#[tactic(auto, using(crate::proofs::NoTouches::no_touches))]
+pub fn no_touches_no_change()
+    ensures { NoTouchesNoChange }
 {}
