@@ -1,1 +1,11 @@
 pub mod SameValues
+pub mod MarkTerms
+pub mod MarkTheory
+pub mod StepTheory
+pub mod ActSteps
+pub mod ActsGo
+pub mod Recording
+pub mod CleanActs
+pub mod ReadOff
+pub mod NoneLeftAtOnce
+pub mod NoTouches

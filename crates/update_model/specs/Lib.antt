@@ -9,3 +9,4 @@ pub mod Acts
 pub mod Touched
 pub mod Updating
 pub mod Laws
+pub mod Sound

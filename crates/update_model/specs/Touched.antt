@@ -6,7 +6,9 @@ use Rattle.bson_value.specs.Place.{Place}
 use Rattle.doc_path.specs.declared.parts.Part.{Part}
 use Rattle.doc_path.specs.declared.touches.Touch.{Touch}
 use Rattle.doc_path.specs.declared.touches.Touch.TheVariants.{Set, Unset, Resize}
-use Rattle.doc_path.specs.Touch.{key_of, below, from_key, limit}
+use Rattle.doc_path.specs.Touch.{limit, Touch as Played}
+use Rattle.doc_path.specs.Played.{touch_at}
+use Rattle.doc_path.specs.declared.parts.Change.TheVariants.{Put, Delete, Resize as Length}
 use Rattle.doc_path.specs.Places.{keys}
 use Rattle.doc_path.specs.Ways.{value_in}
 use Rattle.update_model.specs.Conflicts.{begins}
@@ -72,3 +74,13 @@ touch_of z m = touch_by m (value_in (parts_of m) z)
 -- z is the document after the update
 abbrev pub touches : Value → List Mark → List Touch
 touches z ms = map (touch_of z) (touched ms)
+
+-- what a touch of a document is as it is played, with a Set of the whole array in place of a length
+abbrev pub whole_at : List Part → ℕ → Option Value → Played
+whole_at place n None = touch_at place (Length n)
+whole_at place n (Some a) = touch_at place (Put a)
+
+abbrev pub whole : Value → Touch → Played
+whole z (Resize place n) = whole_at place n (value_in place z)
+whole z (Set place a fresh) = touch_at place (Put a)
+whole z (Unset place) = touch_at place Delete
