@@ -48,7 +48,10 @@ fn a_long_document_is_refused(rt: HostRuntime) -> Result<(), Fail> {
     let longest = setting_text(rt.alloc(), 16777203)?;
     assert_eq!(rt; touches(rt.alloc(), Doc::new(rt.alloc()), longest)?, Ok(1));
     let longer = setting_text(rt.alloc(), 16777204)?;
-    assert_eq!(rt; touches(rt.alloc(), Doc::new(rt.alloc()), longer)?, Err(UpdateFault::TooLong));
+    assert_eq!(rt;
+        touches(rt.alloc(), Doc::new(rt.alloc()), longer)?,
+        Err(UpdateFault::TooLong)
+    );
     Ok(())
 }
 
@@ -57,7 +60,10 @@ fn a_deep_document_is_refused(rt: HostRuntime) -> Result<(), Fail> {
     let deepest = setting_deep(rt.alloc(), 99)?;
     assert_eq!(rt; touches(rt.alloc(), Doc::new(rt.alloc()), deepest)?, Ok(1));
     let deeper = setting_deep(rt.alloc(), 100)?;
-    assert_eq!(rt; touches(rt.alloc(), Doc::new(rt.alloc()), deeper)?, Err(UpdateFault::Deep));
+    assert_eq!(rt;
+        touches(rt.alloc(), Doc::new(rt.alloc()), deeper)?,
+        Err(UpdateFault::Deep)
+    );
     Ok(())
 }
 

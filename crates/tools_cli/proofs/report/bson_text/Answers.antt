@@ -5,7 +5,6 @@ use Rattle.tools_cli.specs.Lines.{kind_text}
 use Rattle.tools_cli.proofs.Pieces.{weaken}
 use Rattle.tools_cli.proofs.report.bson_text.Goals as goal
 
-
 pub returns : goal.returns
 returns c =
     let place : List ℕ = codes "bad document at " ++ decimal c.args.at in
