@@ -1,20 +1,20 @@
 -- The bytes of a diff, level by level.
-use Rattle.std.proofs.Common.{◌≡◌, ℕ, zero, suc, ◌+◌, ◌-◌, ◌<◌, ◌≤◌, List, [], ◌∷◌, ◌++◌, length, take, get_or, Bool, true, false, refl, sym, ap, ◌∙◌, subst, arith, append_assoc}
-use Rattle.std.specs.Prelude.{pos, Option, Some, None, if◌then◌else◌}
+use Rattle.std.proofs.Common.{◌≡◌, ℕ, ◌+◌, ◌<◌, ◌≤◌, List, [], ◌∷◌, ◌++◌, length, take, get_or, true, false, refl, sym, ap, ◌∙◌, append_assoc}
+use Rattle.std.specs.Prelude.{pos, Some}
 use Rattle.std.specs.List.{list_any}
 use Rattle.std.proofs.lemmas.List.{take_more, take_all, append-nil}
-use Rattle.bson_value.specs.declared.value.Value.{Value, Object, Int, Bool as Truth}
-use Rattle.bson_value.specs.Spelling.{element, spelling, elements_of, framed}
+use Rattle.bson_value.specs.declared.value.Value.{Object, Int, Bool as Truth}
+use Rattle.bson_value.specs.Spelling.{element, spelling, elements_of}
 use Rattle.doc_path.specs.declared.parts.Part.{Part}
 use Rattle.doc_path.specs.declared.parts.Part.TheVariants.{Name as name, Index as index}
 use Rattle.doc_path.specs.declared.touches.Touch.{Touch}
-use Rattle.entry_model.specs.Edits.{Step, Sets, Unsets, Resizes, Edit, onto, picked, mapped, gathered, same_part, group, heads, once, rising, first_in}
-use Rattle.entry_model.specs.Written.{Fields, section, d_name, u_name, i_name, a_name, v_name, diff_name, s_of, gone_in, set_in, new_in, length_in, set_at, part_in, below, at_part, parts, document_diff, array_diff, is_array, diff, spelled_v2, u_of, l_name}
+use Rattle.entry_model.specs.Edits.{Step, Sets, Unsets, Resizes, Edit, picked, mapped, gathered, group, heads, once, rising, first_in}
+use Rattle.entry_model.specs.Written.{Fields, section, d_name, u_name, i_name, a_name, v_name, diff_name, s_of, gone_in, set_in, new_in, length_in, set_at, part_in, below, at_part, parts, document_diff, array_diff, diff, spelled_v2}
 use Rattle.entry_model.specs.Touches.{edit_of}
 use Rattle.entry_writer.specs.declared.level.Kind.TheVariants.{Removed, Changed, Fresh, Length}
-use Rattle.entry_writer.specs.Elements.{document_element, opening}
-use Rattle.entry_writer.specs.Fronts.{level, seen, here, below_in, at_or_below}
-use Rattle.entry_writer.specs.Levels.{set_field, by_step, by_here, field_of, fields_of, by_part, element_of}
+use Rattle.entry_writer.specs.Elements.{document_element}
+use Rattle.entry_writer.specs.Fronts.{level, here, below_in, at_or_below}
+use Rattle.entry_writer.specs.Levels.{by_here, fields_of, by_part, element_of}
 use Rattle.entry_writer.specs.Groups.{parts_behind, is_below, diff_below}
 use Rattle.entry_writer.proofs.Bytes.{elements-append, field_is}
 use Rattle.entry_writer.proofs.Groups.{level_picked, level_whole, some_below, none_below}

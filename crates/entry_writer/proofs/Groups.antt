@@ -1,17 +1,17 @@
 -- Groups are what is behind a front, and the parts of a level are listed from the left.
-use Rattle.std.proofs.Common.{◌≡◌, ℕ, zero, suc, ◌+◌, ◌<◌, ◌≤◌, List, [], ◌∷◌, ◌++◌, length, take, drop, get_or, Bool, true, false, refl, sym, ap, ◌∙◌, subst, arith, inl, inr, append_assoc}
-use Rattle.std.specs.Prelude.{Option, Some, None, option_map, if◌then◌else◌, ◌||◌, insert, nat_lt}
+use Rattle.std.proofs.Common.{◌≡◌, ℕ, zero, suc, ◌+◌, ◌<◌, ◌≤◌, List, [], ◌∷◌, ◌++◌, length, take, drop, get_or, Bool, true, false, refl, sym, ap, ◌∙◌, arith, inl, inr, append_assoc}
+use Rattle.std.specs.Prelude.{Option, Some, None, option_map, if◌then◌else◌, ◌||◌, insert}
 use Rattle.std.specs.List.{list_any}
 use Rattle.std.proofs.lemmas.Bool.{cases_Bool}
-use Rattle.std.proofs.lemmas.List.{take_more, take_all, append-nil}
+use Rattle.std.proofs.lemmas.List.{take_more, append-nil}
 use Rattle.doc_path.specs.declared.parts.Part.{Part}
 use Rattle.doc_path.specs.declared.touches.Touch.{Touch}
-use Rattle.entry_model.specs.Edits.{Step, Edit, onto, picked, mapped, same_part, behind, group, once, without, is_before, inserted, rising, first_in}
-use Rattle.entry_model.specs.Written.{in_array, is_array, part_in}
+use Rattle.entry_model.specs.Edits.{Step, Edit, onto, picked, mapped, same_part, behind, group, once, without, is_before, inserted, rising}
+use Rattle.entry_model.specs.Written.{in_array, is_array}
 use Rattle.entry_model.specs.Touches.{edit_of}
 use Rattle.entry_model.proofs.Lists.{one_part, own_part}
-use Rattle.entry_writer.specs.Fronts.{rest_behind, edit_behind, edits_behind, level, seen, below_in, at_or_below, part_by}
-use Rattle.entry_writer.specs.Groups.{among, added, parts_behind, is_part, is_below, array_in}
+use Rattle.entry_writer.specs.Fronts.{rest_behind, edit_behind, edits_behind, level, seen, below_in}
+use Rattle.entry_writer.specs.Groups.{among, added, is_part, is_below, array_in}
 
 -- ---- what is behind nothing, and behind one part more
 

@@ -3,3 +3,4 @@ pub mod Seen
 pub mod Groups
 pub mod FirstForm
 pub mod Diffs
+pub mod Items

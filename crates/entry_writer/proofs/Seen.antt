@@ -6,15 +6,14 @@ use Rattle.doc_path.specs.Paths.{dot}
 use Rattle.std.specs.Prelude.{Option, Some, None, option_map, if◌then◌else◌}
 use Rattle.bson_value.specs.declared.value.Value.{Value}
 use Rattle.doc_path.specs.declared.parts.Part.{Part}
-use Rattle.doc_path.specs.declared.touches.Touch.{Touch}
 use Rattle.doc_path.specs.declared.touches.Touch.TheVariants.{Set, Unset, Resize}
 use Rattle.doc_path.specs.Played.{way_and_last}
 use Rattle.entry_model.specs.Edits.{Step, Sets, Unsets, Resizes, Edit, same_part, first_in}
 use Rattle.entry_model.specs.Written.{part_in, path_of, is_index, in_array}
-use Rattle.entry_model.specs.Touches.{at_end, edit_of}
+use Rattle.entry_model.specs.Touches.{at_end}
 use Rattle.entry_writer.specs.Levels.{dotted}
 use Rattle.entry_writer.specs.Groups.{array_in, index_part, length_array}
-use Rattle.entry_writer.specs.Fronts.{rest_behind, edit_behind, seen, here, here_in, below_in, at_or_below, one_in, some_in, two_in, is_front}
+use Rattle.entry_writer.specs.Fronts.{rest_behind, edit_behind, seen, here, below_in, at_or_below, one_in, some_in, two_in, is_front}
 
 abbrev stripped : Step → Option (List Part) → Option Edit
 stripped s o = option_map (λ ps. (ps, s)) o

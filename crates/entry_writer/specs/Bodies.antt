@@ -1,10 +1,10 @@
 -- What is written of an action outside of groups.
-use Rattle.std.specs.Prelude.{List, [], map}
+use Rattle.std.specs.Prelude.{[]}
 use Rattle.bson_value.specs.declared.namespace.NsName.{NsName}
 use Rattle.entry_model.specs.declared.entry.Entry.{Entry}
 use Rattle.entry_model.specs.declared.entry.Action.{Action, out-Action}
 use Rattle.entry_model.specs.Written.{Fields}
-use Rattle.entry_model.specs.Spelling.{Body, body_at, body_fields, body_of, item_value}
+use Rattle.entry_model.specs.Spelling.{body_at, body_fields, body_of}
 
 -- a group has no items here
 abbrev pub plain_fields : NsName → Action → Fields

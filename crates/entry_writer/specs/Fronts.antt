@@ -1,9 +1,9 @@
 -- The touches behind a front of their places, by which code groups touches without making lists of them.
-use Rattle.std.specs.Prelude.{ℕ, List, [], ◌∷◌, Bool, true, false, Option, Some, None, option_map, if◌then◌else◌}
+use Rattle.std.specs.Prelude.{List, [], ◌∷◌, Bool, true, false, Option, Some, None, option_map, if◌then◌else◌}
 use Rattle.doc_path.specs.declared.parts.Part.{Part}
 use Rattle.doc_path.specs.declared.touches.Touch.{Touch}
-use Rattle.entry_model.specs.Edits.{Step, Edit, picked, mapped, same_part, first_in, behind, group}
-use Rattle.entry_model.specs.Written.{part_in, in_array}
+use Rattle.entry_model.specs.Edits.{Step, Edit, picked, mapped, same_part, first_in}
+use Rattle.entry_model.specs.Written.{part_in}
 use Rattle.entry_model.specs.Touches.{edit_of}
 
 -- what of a place is behind this front

@@ -1,5 +1,5 @@
 -- The parts of a level, and whether edits stand below one.
-use Rattle.std.specs.Prelude.{ℕ, List, [], ◌∷◌, ◌++◌, Bool, true, false, Option, Some, None, if◌then◌else◌, nat_lt}
+use Rattle.std.specs.Prelude.{ℕ, List, [], ◌∷◌, ◌++◌, Bool, true, false, Option, Some, None, if◌then◌else◌}
 use Rattle.std.specs.List.{list_any}
 use Rattle.doc_path.specs.declared.parts.Part.{Part}
 use Rattle.doc_path.specs.declared.touches.Touch.{Touch}

@@ -6,7 +6,7 @@ use Rattle.doc_path.specs.declared.parts.Part.TheVariants.{Name as name, Index a
 use Rattle.doc_path.specs.declared.touches.Touch.{Touch}
 use Rattle.doc_path.specs.Touch.{key_of}
 use Rattle.doc_path.specs.Paths.{dot}
-use Rattle.entry_model.specs.Edits.{Step, Sets, Unsets, Resizes, onto, picked, same_part}
+use Rattle.entry_model.specs.Edits.{Step, Sets, Unsets, Resizes, picked, same_part}
 use Rattle.entry_model.specs.Written.{Fields, d_name, u_name, i_name, l_name, u_of, path_set, path_gone, set_name, unset_name}
 use Rattle.entry_model.specs.Touches.{edit_of}
 use Rattle.entry_writer.specs.declared.level.Kind.{Kind}

@@ -23,8 +23,19 @@ pub(crate) fn namespace_text(alloc: Global, db: &str, coll: &str) -> Result<Text
     Ok(text)
 }
 
+fn name_text(alloc: Global, ns: &NsName) -> Result<Text, AllocError>
+    ensures { IfOk result (λ t. t ≡ text_of ns.now) }
+{
+    namespace_text(alloc, ns.db.as_str(), ns.coll.as_str())
+}
+
 /// Appends the operation and the namespace.
-pub(crate) fn put_head(alloc: Global, out: &mut Vec<u8>, op: &str, ns: Text) -> Result<(), AllocError>
+pub(crate) fn put_head(
+    alloc: Global,
+    out: &mut Vec<u8>,
+    op: &str,
+    ns: Text,
+) -> Result<(), AllocError>
     ensures { OnOk result (out.new.items ≡ out.old.items ++ elements_of ((codes "op", Str op.now) ∷ (codes "ns", Str ns) ∷ [])) }
 {
     let op = Text::of(alloc, op)?;
@@ -181,10 +192,9 @@ fn put_rename(
 ) -> Result<(), AllocError>
     ensures { OnOk result (out.new.items ≡ out.old.items ++ elements_of (body_fields (command_body ns.now (codes "renameCollection") (Str (text_of from.now)) ((codes "to", Str (text_of to.now)) ∷ [])) [])) }
 {
-    let from = Value::Str(namespace_text(alloc, from.db.as_str(), from.coll.as_str())?);
-    let to = namespace_text(alloc, to.db.as_str(), to.coll.as_str())?;
-    let fields = text_field(alloc, "to", to)?;
-    put_command(alloc, out, ns, "renameCollection", &from, fields.entries())
+    let name = Value::Str(name_text(alloc, from)?);
+    let fields = text_field(alloc, "to", name_text(alloc, to)?)?;
+    put_command(alloc, out, ns, "renameCollection", &name, fields.entries())
 }
 
 fn put_drop_index(

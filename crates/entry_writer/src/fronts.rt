@@ -45,11 +45,7 @@ pub(crate) fn at<'p>(front: &[Part], place: &'p Place) -> Option<&'p Part>
     ensures some { place.now ≡ [] → ⊥ }
 {
     let (part, others) = rest_behind(front, place.parts().as_slice())?.split_first()?;
-    if others.is_empty() {
-        Some(part)
-    } else {
-        None
-    }
+    if others.is_empty() { Some(part) } else { None }
 }
 
 /// Whether the place is the front.
@@ -77,11 +73,7 @@ fn first_of_two<'p>(front: &[Part], place: &'p Place) -> Option<&'p Part>
     ensures some { place.now ≡ [] → ⊥ }
 {
     let (part, others) = rest_behind(front, place.parts().as_slice())?.split_first()?;
-    if others.is_empty() {
-        None
-    } else {
-        Some(part)
-    }
+    if others.is_empty() { None } else { Some(part) }
 }
 
 /// The part below which a touch stands behind the front.

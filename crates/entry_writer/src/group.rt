@@ -1,14 +1,14 @@
 //! Entries with groups.
-ghost use Rattle.std.specs.Prelude.{◌≡◌, ◌++◌, [], codes, map, OnOk, IfOk};
+ghost use Rattle.std.specs.Prelude.{◌≡◌, ◌∷◌, ◌++◌, [], codes, pos, map, OnOk, IfOk};
 ghost use Rattle.std.specs.Fmt.{decimal};
-ghost use Rattle.bson_value.specs.declared.value.Value.{Array};
+ghost use Rattle.bson_value.specs.declared.value.Value.{Array, Stamp, Long};
 ghost use Rattle.bson_value.specs.Spelling.{spelling, element, elements_of, items_of, document_text};
-ghost use Rattle.entry_model.specs.Spelling.{command_body, body_fields, item_value, entry_fields};
+ghost use Rattle.entry_model.specs.Spelling.{command_body, body_fields, item_value, wall, entry_fields};
 ghost use Rattle.entry_writer.specs.Bodies.{whole_fields};
 
 use crate::body::{namespace_text, put_head, put_plain};
 use crate::elements::{close, open, open_array, put_element};
-use bson_value::{Bytes, NsName, Value};
+use bson_value::{Bytes, NsName, Ts, Value};
 use entry_model::{Action, Entry};
 use std::alloc::{AllocError, Global};
 
@@ -60,6 +60,29 @@ fn put_body(alloc: Global, out: &mut Vec<u8>, entry: &Entry) -> Result<(), Alloc
     }
 }
 
+/// The date of a second.
+fn wall(secs: u32) -> Value
+    ensures { result ≡ wall secs }
+{
+    Value::Date(i64::from(secs) * 1000)
+}
+
+/// Appends a field with a value of its own.
+fn put_own(out: &mut Vec<u8>, name: &str, value: Value) -> Result<(), AllocError>
+    ensures { OnOk result (out.new.items ≡ out.old.items ++ elements_of ((name.now, value) ∷ [])) }
+{
+    put_element(out, name, &value)
+}
+
+/// Appends the fields before the operation.
+fn put_front(out: &mut Vec<u8>, ts: Ts) -> Result<(), AllocError>
+    ensures { OnOk result (out.new.items ≡ out.old.items ++ elements_of ((codes "ts", Stamp ts) ∷ (codes "t", Long (pos 1)) ∷ (codes "v", Long (pos 2)) ∷ [])) }
+{
+    put_own(out, "ts", Value::Stamp(ts))?;
+    put_own(out, "t", Value::Long(1))?;
+    put_own(out, "v", Value::Long(2))
+}
+
 /// The bytes of the document of an entry. They are written at once, and what the entry holds isn't copied before.
 /// The time is that of the bytes, and of a delta also that of its touches times the documents and elements of its diff.
 pub fn write(alloc: Global, entry: &Entry) -> Result<Bytes, AllocError>
@@ -67,12 +90,9 @@ pub fn write(alloc: Global, entry: &Entry) -> Result<Bytes, AllocError>
 {
     let mut out = Vec::new(alloc);
     out.extend_from_slice(&[0, 0, 0, 0])?;
-    put_element(&mut out, "ts", &Value::Stamp(entry.ts))?;
-    put_element(&mut out, "t", &Value::Long(1))?;
-    put_element(&mut out, "v", &Value::Long(2))?;
+    put_front(&mut out, entry.ts)?;
     put_body(alloc, &mut out, entry)?;
-    let wall = i64::from(entry.ts.secs) * 1000;
-    put_element(&mut out, "wall", &Value::Date(wall))?;
+    put_own(&mut out, "wall", wall(entry.ts.secs))?;
     close(&mut out, 4)?;
     Ok(Bytes::from_vec(out))
 }

@@ -94,12 +94,7 @@ fn put_resize(out: &mut Vec<u8>, kind: Kind, len: u32) -> Result<(), AllocError>
 
 /// Appends the field that a touch gives behind a front.
 #[tactic(auto, using(crate::proofs::Seen::set_here, crate::proofs::Seen::unset_here, crate::proofs::Seen::resize_here))]
-fn put_field(
-    out: &mut Vec<u8>,
-    kind: Kind,
-    front: &[Part],
-    touch: &Touch,
-) -> Result<(), AllocError>
+fn put_field(out: &mut Vec<u8>, kind: Kind, front: &[Part], touch: &Touch) -> Result<(), AllocError>
     ensures { OnOk result (out.new.items ≡ out.old.items ++ elements_of (onto (field_of kind front.now touch.now) [])) }
 {
     match touch {

@@ -28,12 +28,7 @@ fn put_at_path(
 
 /// Appends the field that a touch gives: of a Set with `sets`, else of an Unset.
 #[tactic(auto, using(crate::proofs::FirstForm::set_path, crate::proofs::FirstForm::unset_path, crate::proofs::FirstForm::set_no_path, crate::proofs::FirstForm::unset_no_path, crate::proofs::FirstForm::resize_no_path))]
-fn put_path(
-    alloc: Global,
-    out: &mut Vec<u8>,
-    sets: bool,
-    touch: &Touch,
-) -> Result<(), AllocError>
+fn put_path(alloc: Global, out: &mut Vec<u8>, sets: bool, touch: &Touch) -> Result<(), AllocError>
     ensures { OnOk result (out.new.items ≡ out.old.items ++ elements_of (onto (path_field sets touch.now) [])) }
 {
     match touch {

@@ -1,8 +1,8 @@
-use Rattle.std.proofs.Common.{◌≡◌, ℕ, List, [], ◌∷◌, ◌++◌, sym, ap, ◌∙◌}
+use Rattle.std.proofs.Common.{◌≡◌, ℕ, List, ◌++◌, sym, ap, ◌∙◌}
 use Rattle.bson_value.specs.Spelling.{elements_of}
 use Rattle.doc_path.specs.declared.parts.Part.{Part}
 use Rattle.entry_model.specs.Edits.{Edit, rising}
-use Rattle.entry_model.specs.Written.{Fields, s_of, diff}
+use Rattle.entry_model.specs.Written.{s_of, diff}
 use Rattle.entry_writer.specs.Elements.{opening}
 use Rattle.entry_writer.specs.Fronts.{level}
 use Rattle.entry_writer.specs.Groups.{diff_below}

@@ -1,11 +1,12 @@
-use Rattle.std.proofs.Common.{rules, ◌≡◌, ◌++◌, [], codes, map, OnOk, IfOk, ℕ, ◌+◌, ◌-◌, ◌*◌, ◌<◌, ◌≤◌, length, ◌/◌, ◌%◌, Bool, true, false, nat_eq, nat_lt, List, ◌∷◌, slice_index_or, slice_set, bit_and, bit_or, Fits, w8, w32, w64, Bor, MutBor}
+use Rattle.std.proofs.Common.{refl, map, subst, sym, ◌<◌, ℕ}
 use Rattle.std.specs.Fmt.{decimal}
-use Rattle.bson_value.specs.declared.value.Value.{Array}
-use Rattle.bson_value.specs.Spelling.{spelling, element, elements_of, items_of, document_text}
-use Rattle.entry_model.specs.Spelling.{command_body, body_fields, item_value, entry_fields}
-use Rattle.entry_writer.specs.Bodies.{whole_fields}
+use Rattle.entry_model.specs.Spelling.{item_value}
+use Rattle.bson_encode.proofs.Spelled.{item_put}
+use Rattle.entry_writer.proofs.Items.{mapped_length, mapped_at}
 use Rattle.entry_writer.proofs.group.put_items.Goals as goal
 
--- src/group.rt:29:5
 pub loop-at-preserved : goal.loop-at-preserved
-loop-at-preserved c = ?
+loop-at-preserved c =
+    item_put c.args.out.now.items c.loop-at.out.items c.put_item.new.out.items (decimal c.loop-at.at) (map item_value c.args.entries.now) c.loop-at.at (item_value c.index-entries-at.result)
+    c.loop-at.invariant refl (subst (λ (n : ℕ). c.loop-at.at < n) (sym (mapped_length c.args.entries.now)) c.loop-at-test.true) (mapped_at c.args.entries.now c.loop-at.at c.index-entries-at.result c.loop-at-test.true c.index-entries-at.is)
+    c.in_ok-put_item.ensures

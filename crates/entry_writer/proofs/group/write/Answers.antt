@@ -1,11 +1,15 @@
-use Rattle.std.proofs.Common.{rules, ◌≡◌, ◌++◌, [], codes, map, OnOk, IfOk, ℕ, ◌+◌, ◌-◌, ◌*◌, ◌<◌, ◌≤◌, length, ◌/◌, ◌%◌, Bool, true, false, nat_eq, nat_lt, List, ◌∷◌, slice_index_or, slice_set, bit_and, bit_or, Fits, w8, w32, w64, Bor, MutBor, ℤ, pos, ◌+ℤ◌, ◌-ℤ◌, ◌*ℤ◌, ◌≤ℤ◌, ◌<ℤ◌, FitsSigned, to_z, of_z}
-use Rattle.std.specs.Fmt.{decimal}
-use Rattle.bson_value.specs.declared.value.Value.{Array}
-use Rattle.bson_value.specs.Spelling.{spelling, element, elements_of, items_of, document_text}
-use Rattle.entry_model.specs.Spelling.{command_body, body_fields, item_value, entry_fields}
-use Rattle.entry_writer.specs.Bodies.{whole_fields}
+use Rattle.std.proofs.Common.{ℕ, List, [], ◌∷◌, ◌++◌, ap, ◌∙◌}
+use Rattle.std.specs.Prelude.{codes}
+use Rattle.bson_value.specs.declared.value.Value.{Value}
+use Rattle.bson_value.specs.Spelling.{elements_of}
+use Rattle.entry_writer.proofs.Items.{entry_put}
 use Rattle.entry_writer.proofs.group.write.Goals as goal
 
--- src/group.rt:65:1
 pub returns : goal.returns
-returns c = ?
+returns c =
+    c.from_vec.ensures
+    ∙ entry_put c.args.entry.now c.extend_from_slice.new.self.items c.put_front.new.out.items c.put_body.new.out.items c.put_own.new.out.items c.close.new.out.items
+    (c.in_ok-extend_from_slice.ensures.items ∙ ap (λ (l : List ℕ). l ++ (0 ∷ (0 ∷ (0 ∷ (0 ∷ []))))) c.new-out.ensures.items)
+    c.in_ok-put_front.ensures c.in_ok-put_body.ensures
+    (c.in_ok-put_own.ensures ∙ ap (λ (v : Value). c.put_body.new.out.items ++ elements_of ((codes "wall", v) ∷ [])) c.wall.ensures)
+    c.in_ok-close.ensures

@@ -1,4 +1,4 @@
-use Rattle.std.proofs.Common.{ℕ, List, [], ◌∷◌, ◌++◌, ap, sym, ◌∙◌, append_assoc}
+use Rattle.std.proofs.Common.{[], ◌∷◌, ◌++◌, ap, sym, ◌∙◌, append_assoc}
 use Rattle.std.specs.Int.{w32, to_le_bytes}
 use Rattle.bson_value.specs.Spelling.{Typed, element}
 use Rattle.entry_model.specs.Written.{l_name}

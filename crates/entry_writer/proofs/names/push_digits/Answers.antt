@@ -1,4 +1,4 @@
-use Rattle.std.proofs.Common.{arith, ap, sym, ◌∙◌}
+use Rattle.std.proofs.Common.{arith, sym}
 use Rattle.bson_value.proofs.Digits.{digits-is_decimal}
 use Rattle.entry_writer.proofs.names.push_digits.Goals as goal
 

@@ -1,4 +1,4 @@
-use Rattle.std.proofs.Common.{sym, ◌∙◌}
+use Rattle.std.proofs.Common.{sym}
 use Rattle.entry_writer.proofs.Groups.{still_none, first_is}
 use Rattle.entry_writer.proofs.parts.is_array.Goals as goal
 

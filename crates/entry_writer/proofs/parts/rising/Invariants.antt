@@ -1,4 +1,4 @@
-use Rattle.std.proofs.Common.{◌≡◌, length}
+use Rattle.std.proofs.Common.{◌≡◌}
 use Rattle.entry_model.specs.Edits.{rising}
 use Rattle.entry_writer.proofs.Groups.{all_inserted}
 use Rattle.entry_writer.proofs.parts.rising.Given as goal
