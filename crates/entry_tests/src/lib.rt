@@ -7,3 +7,5 @@ mod heads;
 mod reading;
 #[cfg(test)]
 mod shown;
+#[cfg(test)]
+mod writing;

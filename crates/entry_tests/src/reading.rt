@@ -78,7 +78,7 @@ fn entries_of_every_shape(rt: HostRuntime) -> Result<(), Fail> {
         assert_eq!(rt; shown(rt.alloc(), &entry)?.as_str(), want);
         count += 1;
     }
-    assert_eq!(rt; count, 31);
+    assert_eq!(rt; count, 29);
     Ok(())
 }
 

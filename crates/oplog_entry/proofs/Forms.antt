@@ -1,5 +1,5 @@
 -- The form and the touches of an update's fields, in two steps.
-use Rattle.std.proofs.Common.{◌≡◌, ℕ, List, [], Bool, true, false, refl, sym, ap, ◌∙◌, subst}
+use Rattle.std.proofs.Common.{◌≡◌, List, [], Bool, true, false, refl, sym, ap, ◌∙◌, subst}
 use Rattle.std.specs.Prelude.{ℤ, pos, if◌then◌else◌, Option, Some, None, Result, Ok, Err}
 use Rattle.containers.specs.Entries.{lookup}
 use Rattle.bson_value.specs.declared.value.Value.{Value, Value-F, out-Value}

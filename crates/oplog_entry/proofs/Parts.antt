@@ -8,11 +8,10 @@ use Rattle.bson_value.specs.declared.value.Value.{Value, out-Value}
 use Rattle.bson_value.specs.declared.value.Ts.{Ts}
 use Rattle.bson_value.specs.declared.namespace.NsName.{NsName}
 use Rattle.entry_model.specs.declared.entry.Action.TheVariants.{Nothing, DropDb, Group}
-use Rattle.entry_model.specs.declared.fault.EntryFault.{EntryFault}
 use Rattle.entry_model.specs.declared.fault.EntryFault.TheVariants.{UnknownOp}
 use Rattle.entry_model.specs.Written.{Fields}
 use Rattle.entry_model.specs.Reading.{Read, ◌>>=◌, field, array_in, document_in, Done, command, operation, no_group, other, is_true, is_partial, items, good, named, group_of, nothing_read, insert_read, delete_read, updated_read, create_read, drop_read, create_indexes_read, commit_read, drop_index_read, rename_read}
-use Rattle.oplog_entry.specs.Answers.{Fails, Gives}
+use Rattle.oplog_entry.specs.Answers.{Gives}
 use Rattle.oplog_entry.specs.Parts.{Begins, further, is_group}
 use Rattle.oplog_entry.proofs.Binds.{gives_next}
 

@@ -1,6 +1,6 @@
 -- A text that isn't parted names no collection.
-use Rattle.std.proofs.Common.{◌≡◌, ℕ, suc, ◌+◌, ◌-◌, ◌<◌, List, [], ◌∷◌, length, drop, refl, sym, ap, ◌∙◌, arith, length-drop}
-use Rattle.std.specs.Prelude.{Some, None}
+use Rattle.std.proofs.Common.{◌≡◌, ℕ, ◌+◌, ◌-◌, ◌<◌, List, [], ◌∷◌, length, refl, ap, ◌∙◌, arith, length-drop}
+use Rattle.std.specs.Prelude.{None}
 use Rattle.std.specs.List.{position_or_len, before_first, after_first}
 use Rattle.bson_value.specs.Namespace.{IsSplit}
 use Rattle.bson_value.proofs.FirstDot.{at_first_dot}

@@ -1,6 +1,5 @@
-use Rattle.std.proofs.Common.{◌≡◌, ◌<◌, ◌∷◌, length, get_or, sym, ap, ◌∙◌, subst}
+use Rattle.std.proofs.Common.{◌≡◌, ◌∷◌, sym, ap, ◌∙◌}
 use Rattle.std.specs.Prelude.{Ok}
-use Rattle.entry_model.specs.Written.{Fields}
 use Rattle.entry_model.specs.Reading.{command, no_group, other}
 use Rattle.oplog_entry.specs.Parts.{further}
 use Rattle.oplog_entry.proofs.Parts.{first_field, unlike, unknown_command}

@@ -1,4 +1,4 @@
-use Rattle.std.proofs.Common.{◌≡◌, List, sym, ap, ◌∙◌, subst}
+use Rattle.std.proofs.Common.{List, sym, ap, ◌∙◌, subst}
 use Rattle.std.specs.Prelude.{Ok, codes}
 use Rattle.bson_value.specs.declared.value.Value.{Value}
 use Rattle.entry_model.specs.declared.entry.Action.TheVariants.{AddIndexes}

@@ -1,5 +1,5 @@
-use Rattle.std.proofs.Common.{◌≡◌, ℕ, List, ap, subst}
-use Rattle.std.specs.Prelude.{Option, IfSome, IfNone, None}
+use Rattle.std.proofs.Common.{ℕ, List, ap, subst}
+use Rattle.std.specs.Prelude.{Option, IfSome, IfNone}
 use Rattle.bson_value.specs.declared.namespace.NsName.{NsName}
 use Rattle.bson_value.specs.Namespace.{IsSplit}
 use Rattle.entry_model.specs.declared.fault.EntryFault.TheVariants.{BadField}

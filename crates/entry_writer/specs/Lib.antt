@@ -1,0 +1,5 @@
+pub mod Elements
+pub mod Fronts
+pub mod Levels
+pub mod Groups
+pub mod Bodies

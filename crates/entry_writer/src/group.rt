@@ -1,0 +1,98 @@
+//! Entries with groups.
+ghost use Rattle.std.specs.Prelude.{◌≡◌, ◌∷◌, ◌++◌, [], codes, pos, map, OnOk, IfOk};
+ghost use Rattle.std.specs.Fmt.{decimal};
+ghost use Rattle.bson_value.specs.declared.value.Value.{Array, Stamp, Long};
+ghost use Rattle.bson_value.specs.Spelling.{spelling, element, elements_of, items_of, document_text};
+ghost use Rattle.entry_model.specs.Spelling.{command_body, body_fields, item_value, wall, entry_fields};
+ghost use Rattle.entry_writer.specs.Bodies.{whole_fields};
+
+use crate::body::{namespace_text, put_head, put_plain};
+use crate::elements::{close, open, open_array, put_element};
+use bson_value::{Bytes, NsName, Ts, Value};
+use entry_model::{Action, Entry};
+use std::alloc::{AllocError, Global};
+
+/// Appends an item of a group.
+fn put_item(alloc: Global, out: &mut Vec<u8>, at: usize, entry: &Entry) -> Result<(), AllocError>
+    ensures { OnOk result (out.new.items ≡ out.old.items ++ element (decimal at, spelling (item_value entry.now))) }
+{
+    let name = format!(in alloc; "{at}")?;
+    open(out, name.as_str())?;
+    let start = out.len();
+    put_plain(alloc, out, &entry.ns, &entry.action)?;
+    close(out, start)
+}
+
+fn put_items(alloc: Global, out: &mut Vec<u8>, entries: &[Entry]) -> Result<(), AllocError>
+    ensures { OnOk result (out.new.items ≡ out.old.items ++ items_of (map item_value entries.now)) }
+{
+    for at in 0..entries.len() {
+        put_item(alloc, out, at, &entries[at])?;
+    }
+    Ok(())
+}
+
+fn put_group(
+    alloc: Global,
+    out: &mut Vec<u8>,
+    ns: &NsName,
+    entries: &[Entry],
+) -> Result<(), AllocError>
+    ensures { OnOk result (out.new.items ≡ out.old.items ++ elements_of (body_fields (command_body ns.now (codes "applyOps") (Array (map item_value entries.now)) []) [])) }
+{
+    let text = namespace_text(alloc, ns.db.as_str(), "$cmd")?;
+    put_head(alloc, out, "c", text)?;
+    open(out, "o")?;
+    let start = out.len();
+    open_array(out, "applyOps")?;
+    let first = out.len();
+    put_items(alloc, out, entries)?;
+    close(out, first)?;
+    close(out, start)
+}
+
+fn put_body(alloc: Global, out: &mut Vec<u8>, entry: &Entry) -> Result<(), AllocError>
+    ensures { OnOk result (out.new.items ≡ out.old.items ++ elements_of (whole_fields entry.now)) }
+{
+    match &entry.action {
+        Action::Group { entries } => put_group(alloc, out, &entry.ns, entries.as_slice()),
+        _ => put_plain(alloc, out, &entry.ns, &entry.action),
+    }
+}
+
+/// The date of a second.
+fn wall(secs: u32) -> Value
+    ensures { result ≡ wall secs }
+{
+    Value::Date(i64::from(secs) * 1000)
+}
+
+/// Appends a field with a value of its own.
+fn put_own(out: &mut Vec<u8>, name: &str, value: Value) -> Result<(), AllocError>
+    ensures { OnOk result (out.new.items ≡ out.old.items ++ elements_of ((name.now, value) ∷ [])) }
+{
+    put_element(out, name, &value)
+}
+
+/// Appends the fields before the operation.
+fn put_front(out: &mut Vec<u8>, ts: Ts) -> Result<(), AllocError>
+    ensures { OnOk result (out.new.items ≡ out.old.items ++ elements_of ((codes "ts", Stamp ts) ∷ (codes "t", Long (pos 1)) ∷ (codes "v", Long (pos 2)) ∷ [])) }
+{
+    put_own(out, "ts", Value::Stamp(ts))?;
+    put_own(out, "t", Value::Long(1))?;
+    put_own(out, "v", Value::Long(2))
+}
+
+/// The bytes of the document of an entry. They are written at once, and what the entry holds isn't copied before.
+/// The time is that of the bytes, and of a delta also that of its touches times the documents and elements of its diff.
+pub fn write(alloc: Global, entry: &Entry) -> Result<Bytes, AllocError>
+    ensures { IfOk result (λ bytes. bytes ≡ document_text (entry_fields entry.now)) }
+{
+    let mut out = Vec::new(alloc);
+    out.extend_from_slice(&[0, 0, 0, 0])?;
+    put_front(&mut out, entry.ts)?;
+    put_body(alloc, &mut out, entry)?;
+    put_own(&mut out, "wall", wall(entry.ts.secs))?;
+    close(&mut out, 4)?;
+    Ok(Bytes::from_vec(out))
+}
