@@ -1,24 +1,9 @@
 //! Updates at the limits of what is accepted.
 use crate::documents::document;
-use bson_value::{CText, Doc, Text, Value};
+use bson_value::{CText, Doc, Value};
 use std::alloc::Global;
 use std::test::Fail;
 use update_ops::{Ops, UpdateFault, update};
-
-// `{$set: {a: "   .."}}`, with so many bytes in the text.
-fn setting_text(alloc: Global, len: usize) -> Result<Doc, Fail> {
-    let mut text = Text::of(alloc, " ")?;
-    while text.len() < len {
-        let copy = text.copy(alloc)?;
-        text.push_str(copy.as_str())?;
-    }
-    text.truncate(len);
-    let mut paths = Doc::new(alloc);
-    paths.set(CText::of_text(alloc, "a")?, Value::Str(text))?;
-    let mut ops = Doc::new(alloc);
-    ops.set(CText::of_text(alloc, "$set")?, Value::Object(paths))?;
-    Ok(ops)
-}
 
 // `{$set: {a.a.a: {}}}`, with so many parts in the path.
 fn setting_deep(alloc: Global, parts: usize) -> Result<Doc, Fail> {
@@ -41,18 +26,6 @@ fn touches(alloc: Global, doc: Doc, ops: Doc) -> Result<Result<usize, UpdateFaul
         Ok(updated) => Ok(Ok(updated.touches.len())),
         Err(fault) => Ok(Err(fault)),
     }
-}
-
-#[test]
-fn a_long_document_is_refused(rt: HostRuntime) -> Result<(), Fail> {
-    let longest = setting_text(rt.alloc(), 16777203)?;
-    assert_eq!(rt; touches(rt.alloc(), Doc::new(rt.alloc()), longest)?, Ok(1));
-    let longer = setting_text(rt.alloc(), 16777204)?;
-    assert_eq!(rt;
-        touches(rt.alloc(), Doc::new(rt.alloc()), longer)?,
-        Err(UpdateFault::TooLong)
-    );
-    Ok(())
 }
 
 #[test]
