@@ -1,11 +1,7 @@
-//! Worked index definitions, keys of worked documents, and worked indexes.
+//! Worked index definitions, and keys of worked documents.
 #![tactic(auto)]
 
-#[cfg(test)]
-mod counts;
 #[cfg(test)]
 mod definitions;
 #[cfg(test)]
 mod documents;
-#[cfg(test)]
-mod indexes;
