@@ -157,7 +157,7 @@ const MIDDLE: usize = 8192;
 
 const LARGE: usize = 32768;
 
-const HUGE: usize = 3145728;
+const HUGE: usize = 9437184;
 
 const SPARSE: usize = 131072;
 
@@ -325,7 +325,7 @@ const FEW: u32 = 1;
 
 /// The first name that stands before it too, by its place, among the elements before the last `left` bytes.
 ///
-/// It takes no memory, and at most 768 KiB of the stack, or 3 MiB for a body of more than 3 MiB. Names that rise take
+/// It takes no memory, and at most 768 KiB of the stack, or 3 MiB for a body of more than 9 MiB. Names that rise take
 /// one walk. In another order some 13,000 take one too, and the 2,800,000 that 16 MiB hold mostly two. Names that are
 /// chosen to share their slots in every round are sorted in blocks of 32,768, and the names behind a block are looked for in it:
 /// n log n steps for n names, and n * n / 65,536 short ones, which is some seconds for 2,000,000 names.

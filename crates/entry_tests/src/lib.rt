@@ -3,3 +3,9 @@
 
 #[cfg(test)]
 mod heads;
+#[cfg(test)]
+mod reading;
+#[cfg(test)]
+mod shown;
+#[cfg(test)]
+mod writing;

@@ -1,11 +1,10 @@
 //! Keys of worked documents, of both kinds of documents that are held.
+use crate::texts::document;
 use bson_encode::encode;
-use bson_value::{Doc, List, Text, Value};
+use bson_value::{Doc, List, Text};
 use bson_view::{Held, View};
 use doc_path::Path;
-use extjson::value_of;
 use index_keys::{KeyFault, Keys, Plan, keys};
-use json_text::parse;
 use std::alloc::Global;
 use std::test::Fail;
 
@@ -40,14 +39,6 @@ a,b sparse 2 {"a":[1,2]}
 a.x,b sparse 1 {"a":[5],"b":1}
 "#;
 
-// The document that the text writes.
-fn document(alloc: Global, text: &str) -> Result<Doc, Fail> {
-    match value_of(alloc, &parse(alloc, text)?)? {
-        Value::Object(doc) => Ok(doc),
-        _ => Err("no document")?,
-    }
-}
-
 fn plan(alloc: Global, fields: &str, kind: &str) -> Result<Plan, Fail> {
     let mut paths = List::new(alloc);
     for field in fields.split(',') {
@@ -73,20 +64,31 @@ fn same(alloc: Global, a: &Keys, b: &Keys) -> Result<bool, Fail> {
     Ok(true)
 }
 
+// The keys of the document that is built, where they are those of its spelling too.
+fn both(alloc: Global, plan: &Plan, doc: &Doc) -> Result<Option<Keys>, Fail> {
+    let bytes = encode(alloc, doc)?;
+    let view = View::check(bytes.as_slice(), bytes.len(), 100)?;
+    let spelled = keys(alloc, plan, Held::Spelled(view))?;
+    let built = keys(alloc, plan, Held::Built(doc))?;
+    if same(alloc, &built, &spelled)? {
+        return Ok(Some(built));
+    }
+    Ok(None)
+}
+
+fn count(alloc: Global, fields: &str, kind: &str, json: &str) -> Result<usize, Fail> {
+    let plan = plan(alloc, fields, kind)?;
+    let doc = document(alloc, json)?;
+    Ok(both(alloc, &plan, &doc)?.ok_or("other keys")?.len())
+}
+
 #[test]
 fn keys_of_arrays(rt: HostRuntime) -> Result<(), Fail> {
     for line in KEYS.lines().skip(1) {
         let (fields, rest) = line.split_once(' ').ok_or("no kind")?;
         let (kind, rest) = rest.split_once(' ').ok_or("no number")?;
-        let (count, json) = rest.split_once(' ').ok_or("no document")?;
-        let plan = plan(rt.alloc(), fields, kind)?;
-        let doc = document(rt.alloc(), json)?;
-        let bytes = encode(rt.alloc(), &doc)?;
-        let view = View::check(bytes.as_slice(), bytes.len(), 100)?;
-        let built = keys(rt.alloc(), &plan, Held::Built(&doc))?;
-        let spelled = keys(rt.alloc(), &plan, Held::Spelled(view))?;
-        assert!(rt; built.len() == count.parse::<usize>()?, "{line}");
-        assert!(rt; same(rt.alloc(), &built, &spelled)?, "{line}");
+        let (number, json) = rest.split_once(' ').ok_or("no document")?;
+        assert!(rt; count(rt.alloc(), fields, kind, json)? == number.parse::<usize>()?, "{line}");
     }
     Ok(())
 }
@@ -108,17 +110,19 @@ c,a.x,b,d.e a.x d.e {"a":{"x":[]},"d":[{"e":[1]}]}
 b,a b a {"a":[[1]],"b":[{}],"c":[]}
 "#;
 
+fn met(alloc: Global, fields: &str, json: &str) -> Result<(Text, Text), Fail> {
+    let plan = plan(alloc, fields, "all")?;
+    let doc = document(alloc, json)?;
+    Ok(parallel(keys(alloc, &plan, Held::Built(&doc))).ok_or("no fault")?)
+}
+
 #[test]
 fn the_first_two_that_meet_arrays_are_told(rt: HostRuntime) -> Result<(), Fail> {
     for line in PARALLEL.lines().skip(1) {
         let (fields, rest) = line.split_once(' ').ok_or("no first")?;
         let (one, rest) = rest.split_once(' ').ok_or("no second")?;
         let (other, json) = rest.split_once(' ').ok_or("no document")?;
-        let plan = plan(rt.alloc(), fields, "all")?;
-        let doc = document(rt.alloc(), json)?;
-        let (first, second) = parallel(keys(rt.alloc(), &plan, Held::Built(&doc))).ok_or(
-            "no fault",
-        )?;
+        let (first, second) = met(rt.alloc(), fields, json)?;
         assert!(rt; first.as_str() == one, "{line}");
         assert!(rt; second.as_str() == other, "{line}");
     }
@@ -136,16 +140,19 @@ other {"k":[[]]} ~ {"k":[]}
 other {"k":"a"} ~ {"k":{"$symbol":"a"}}
 "#;
 
+fn keys_of(alloc: Global, json: &str) -> Result<Keys, Fail> {
+    let plan = plan(alloc, "k", "all")?;
+    let doc = document(alloc, json)?;
+    Ok(keys(alloc, &plan, Held::Built(&doc))?)
+}
+
 #[test]
 fn keys_are_equal_up_to_the_order_of_fields(rt: HostRuntime) -> Result<(), Fail> {
     for line in PAIRS.lines().skip(1) {
         let (relation, rest) = line.split_once(' ').ok_or("no documents")?;
         let (a, b) = rest.split_once(" ~ ").ok_or("no other")?;
-        let plan = plan(rt.alloc(), "k", "all")?;
-        let a = document(rt.alloc(), a)?;
-        let b = document(rt.alloc(), b)?;
-        let a = keys(rt.alloc(), &plan, Held::Built(&a))?;
-        let b = keys(rt.alloc(), &plan, Held::Built(&b))?;
+        let a = keys_of(rt.alloc(), a)?;
+        let b = keys_of(rt.alloc(), b)?;
         assert!(rt; same(rt.alloc(), &a, &b)? == (relation == "same"), "{line}");
     }
     Ok(())
