@@ -16,9 +16,9 @@ use Rattle.coll_state.specs.declared.collection.Numbered.{Numbered}
 use Rattle.coll_state.specs.declared.collection.Record.{Record}
 use Rattle.coll_state.specs.Rows.{Row, Table, row_of, Rising, collection_of}
 use Rattle.coll_state.specs.Documents.{under, put_value, values_under, AllThere, AreNumbered}
-use Rattle.coll_state.specs.Order.{Behind, found}
+use Rattle.sorted_list.specs.Order.{Behind, found}
 use Rattle.coll_state.specs.Stock.{AllAfter, Rise, key_of_number, number_of, row_in, rows_in, table_in, Covers, AreParts}
-use Rattle.coll_state.proofs.Order.{none_above}
+use Rattle.sorted_list.proofs.Order.{none_above}
 use Rattle.coll_state.proofs.Keyed.{is_equal}
 use Rattle.coll_state.proofs.RowLists.{no_in, row_absent}
 use Rattle.coll_state.proofs.Records.{found_row}

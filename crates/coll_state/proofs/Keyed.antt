@@ -7,9 +7,9 @@ use Rattle.std.specs.declared.cmp.Ordering.TheVariants.{Less, Equal, Greater}
 use Rattle.std.specs.Cmp.{IsTotalOrder, eq_by_cmp_equiv}
 use Rattle.std.specs.FinMap.{IsAntisymmetric}
 use Rattle.std.proofs.lemmas.Bool.{cases_Bool}
-use Rattle.coll_state.specs.Order.{AllAbove, Behind, IsOrdered, found, put_in, set_in, take_out}
+use Rattle.sorted_list.specs.Order.{AllAbove, Behind, IsOrdered, found, put_in, set_in, take_out}
 use Rattle.coll_state.specs.Stock.{AllAfter, Rise, beside}
-use Rattle.coll_state.proofs.Order.{none_above}
+use Rattle.sorted_list.proofs.Order.{none_above}
 
 is_less : (o : Ordering) → is_lt o ≡ true → o ≡ Less
 is_less Less e = refl

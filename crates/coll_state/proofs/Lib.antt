@@ -1,4 +1,3 @@
-pub mod Order
 pub mod Keyed
 pub mod RowLists
 pub mod Records

@@ -18,9 +18,9 @@ use Rattle.coll_state.specs.declared.collection.Record.{Record}
 use Rattle.coll_state.specs.Rows.{Document, Row, Table, row_of, Rising, last_no, scan}
 use Rattle.coll_state.specs.Changes.{put_row, drop_row, next_after, put_table, drop_table}
 use Rattle.coll_state.specs.Definitions.{definition_name}
-use Rattle.coll_state.specs.Order.{AllAbove, Behind, IsOrdered, found, place, put_in, set_in, take_out, IsFound, IsGap}
+use Rattle.sorted_list.specs.Order.{AllAbove, Behind, IsOrdered, found, place, put_in, set_in, take_out, IsFound, IsGap}
 use Rattle.coll_state.specs.Stock.{AllAfter, Rise, beside, key_of_number, number_of, row_in, rows_in, named, indexes_in, Covers, AreParts}
-use Rattle.coll_state.proofs.Order.{put_at, set_at, take_at}
+use Rattle.sorted_list.proofs.Order.{put_at, set_at, take_at}
 use Rattle.coll_state.proofs.Keyed.{rise_ordered, found_put, found_set, found_take, rise_put, rise_set, rise_take}
 use Rattle.coll_state.proofs.RowLists.{no_in, row_found, row_absent, kept_no, fresh_no, row_put_else, row_drop_else, row_drop_here, rising_put, rising_drop, last_put, last_drop}
 
@@ -83,8 +83,8 @@ parts_replaced defs next n ns rs rs' k d p there put = record {
 
 -- a document behind all others
 pub parts_added : (defs : List Tree) (next : ℕ) (ns ns' : List Numbered) (rs rs' : List Record) (k : Key) (d : Document) (y : Numbered) → AreParts defs next ns rs → row_of (rows_in rs) k ≡ None →
-    y.key ≡ k → y.no ≡ next → ns' ≡ insert ns (place (at_key k) ns) y → rows_in rs' ≡ put_row next k d (rows_in rs) → AreParts defs (next + 1) ns' rs'
-parts_added defs next ns ns' rs rs' k d y p none yk yn ins put = record {
+    y.key ≡ k → y.no ≡ next → ns' ≡ put_in (at_key k) y ns → rows_in rs' ≡ put_row next k d (rows_in rs) → AreParts defs (next + 1) ns' rs'
+parts_added defs next ns ns' rs rs' k d y p none yk yn is put = record {
   definitions = p.definitions;
   keys = subst (Rise key_cmp key_of_number) (sym is) (rise_put key_cmp key_total key_anti key_of_number ns k y yk gap p.keys);
   covers = λ q. at q (cases_Bool (same_key q k));
@@ -92,9 +92,6 @@ parts_added defs next ns ns' rs rs' k d y p none yk yn ins put = record {
   next_above = subst (λ (z : List Row). last_no 0 z < next + 1) (sym put) (subst (λ (z : ℕ). last_no 0 (put_row next k d (rows_in rs)) < z) (next_fresh next (row_of (rows_in rs) k) none) (last_put 0 (rows_in rs) next k d p.next_above));
 }
   where
-    is : ns' ≡ put_in (at_key k) y ns
-    is = ins ∙ put_at (at_key k) ns y
-
     gap : found (at_key k) ns ≡ None
     gap = no_number ns k (p.covers k ∙ ap no_in none)
 

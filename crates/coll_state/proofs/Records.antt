@@ -15,7 +15,7 @@ use Rattle.state_model.proofs.Keys.{key_is}
 use Rattle.coll_state.specs.declared.collection.Record.{Record}
 use Rattle.coll_state.specs.Rows.{Row, row_of, Rising, key_in, id_of}
 use Rattle.coll_state.specs.Changes.{put_row, drop_row}
-use Rattle.coll_state.specs.Order.{IsOrdered, found, set_in, take_out}
+use Rattle.sorted_list.specs.Order.{IsOrdered, found, set_in, take_out}
 use Rattle.coll_state.specs.Stock.{AllAfter, Rise, beside, row_in, rows_in, no_of}
 use Rattle.coll_state.proofs.Keyed.{rise_ordered, after_trans}
 use Rattle.coll_state.proofs.RowLists.{row_here, row_later, no_in, some_no, number_there, put_found, put_further}

@@ -1,12 +1,13 @@
 -- Documents in the order of the keys of their _ids.
 use Rattle.std.specs.Prelude.{⊤, ◌≡◌, ℕ, List, [], ◌∷◌, Option, Some, None, is_some, true}
 use Rattle.std.specs.Ordering.{nat_cmp}
+use Rattle.std.specs.Borrow.{Bor}
 use Rattle.std.specs.FinMap as map
 use Rattle.bson_value.specs.declared.value.Value.{Value, Object}
 use Rattle.coll_state.specs.declared.collection.Numbered.{Numbered}
 use Rattle.coll_state.specs.declared.collection.Record.{Record}
 use Rattle.coll_state.specs.Rows.{Table, Rising, collection_of}
-use Rattle.coll_state.specs.Order.{found}
+use Rattle.sorted_list.specs.Order.{Shelf, found}
 use Rattle.coll_state.specs.Stock.{beside, no_of, rows_in}
 
 -- the documents of a collection that is there, in the order of their keys
@@ -21,6 +22,11 @@ under rs n = found (beside nat_cmp no_of n) rs
 abbrev pub put_value : Option Record → List Value → List Value
 put_value None vs = vs
 put_value (Some r) vs = Object r.document ∷ vs
+
+-- all records, where there is a collection
+abbrev pub records_in : Option (Bor (Shelf Record)) → List Record
+records_in None = []
+records_in (Some r) = r.now.items
 
 -- the documents under these numbers
 abbrev pub values_under : List Numbered → List Record → List Value

@@ -4,7 +4,6 @@ pub mod Definitions
 pub mod Documents
 pub mod Codes
 pub mod Kept
-pub mod Order
 pub mod Stock
 pub mod Tables
 pub mod Walks

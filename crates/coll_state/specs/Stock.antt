@@ -11,7 +11,7 @@ use Rattle.coll_state.specs.declared.collection.Record.{Record}
 use Rattle.coll_state.specs.Rows.{Row, Table, row_of, key_in, id_of, Rising, last_no}
 use Rattle.coll_state.specs.Codes.{table_code}
 use Rattle.coll_state.specs.Definitions.{definition_name}
-use Rattle.coll_state.specs.Order.{found}
+use Rattle.sorted_list.specs.Order.{found}
 
 -- a collection, and how many documents more it has room for
 pub record Stock : Type 0 where

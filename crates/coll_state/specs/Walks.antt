@@ -1,5 +1,5 @@
 -- What walks over a state have still to give.
-use Rattle.std.specs.Prelude.{ℕ, List, map}
+use Rattle.std.specs.Prelude.{ℕ, List, map, take}
 use Rattle.bson_value.specs.declared.namespace.NsName.{NsName}
 use Rattle.bson_view.specs.declared.held.Held.{Held}
 use Rattle.coll_state.specs.declared.walks.After.{After}
@@ -17,7 +17,7 @@ abbrev pub looks : List Row → List (ℕ × (Document × Look))
 looks rs = map (λ r. (r.no, shown r.document)) rs
 
 abbrev pub looks_left : After → List (ℕ × (Document × Look))
-looks_left a = looks (rows_in a.records.now)
+looks_left a = looks (rows_in (take a.left a.records))
 
 abbrev pub item_of : ℕ × Held → ℕ × (Document × Look)
 item_of p = (p.0, shown_in p.1)

@@ -1,5 +1,5 @@
 //! A collection: its options, its index definitions, and its documents in record order.
-ghost use Rattle.std.specs.Prelude.{◌≡◌, ◌+◌, ◌<◌, ◌≤◌, ◌^◌, [], OnOk, OnErr, option_map, is_some, Some, None, MatchResult, length, map as each};
+ghost use Rattle.std.specs.Prelude.{◌≡◌, ◌+◌, ◌<◌, ◌≤◌, ◌^◌, [], OnOk, OnErr, option_map, is_some, Some, None, MatchResult, ℕ, take, length, map as each};
 ghost use Rattle.std.specs.Option.{option_copied};
 ghost use Rattle.std.specs.FinMap as map;
 ghost use Rattle.bson_encode.specs.Key.{key_of};
@@ -7,17 +7,17 @@ ghost use Rattle.state_model.specs.Keys.{key_cmp};
 ghost use Rattle.coll_state.specs.Rows.{row_of, key_in, id_of, scan, collection_of, IsSound};
 ghost use Rattle.coll_state.specs.Changes.{fresh_table, put_table, drop_table, with_incarnation, put_index, take_index};
 ghost use Rattle.coll_state.specs.Definitions.{definition_name};
-ghost use Rattle.coll_state.specs.Order.{IsFound, IsGap};
+ghost use Rattle.sorted_list.specs.Order.{IsFound, IsGap};
 ghost use Rattle.coll_state.specs.Stock.{row_in, rows_in, Rise, beside};
 ghost use Rattle.std.specs.List.Sorted.{IsSearchInRange};
 
 use crate::documents::Documents;
 use crate::kept::Kept;
-use crate::sorted::Sorted;
 use bson_encode::cmp_key;
 use bson_value::{Bytes, Value};
 use containers::List as JList;
 use json_tree::Tree;
+use sorted_list::{SortedList, Walk};
 use std::alloc::{AllocError, Global};
 use std::cmp::Ordering;
 use std::marker::Model;
@@ -43,8 +43,8 @@ pub(crate) struct Collection {
     indexes: JList<Tree>,
     incarnation: u128,
     next: u128,
-    numbers: Sorted<Numbered>,
-    records: Sorted<Record>,
+    numbers: SortedList<Numbered>,
+    records: SortedList<Record>,
 }
 
 impl Model for Collection {
@@ -105,8 +105,8 @@ impl Collection {
             indexes: JList::new(alloc),
             incarnation,
             next: 1,
-            numbers: Sorted::new(alloc),
-            records: Sorted::new(alloc),
+            numbers: SortedList::new(alloc),
+            records: SortedList::new(alloc),
         }
     }
 
@@ -159,26 +159,24 @@ impl Collection {
         self.incarnation
     }
 
-    /// The first `n` records behind a number.
-    pub(crate) fn after(&self, no: u128, n: usize) -> &[Record]
-        ensures { rows_in result.now ≡ scan no n self.now.table.rows }
+    /// The records behind a number.
+    pub(crate) fn after(&self, no: u128) -> Walk<'_, Record>
+        ensures { (n : ℕ) → rows_in (take n result) ≡ scan no n self.now.table.rows }
     {
-        let start = self.records.place(|record| {
+        self.records.walk_from(|record| {
             if record.no <= no {
                 Ordering::Less
             } else {
                 Ordering::Greater
             }
-        });
-        let behind = &self.records.as_slice()[start..];
-        &behind[..n.min(behind.len())]
+        })
     }
 
     /// The documents in the order of their keys.
     pub(crate) fn documents(&self) -> Documents<'_>
         ensures { result ≡ map.values (collection_of self.now.table).documents }
     {
-        Documents::of(self.numbers.as_slice(), self.records.as_slice())
+        Documents::of(self.numbers.walk(), Some(&self.records))
     }
 
     /// Another incarnation.
@@ -227,8 +225,8 @@ impl Collection {
         ensures room { self.old.room ≤ self.new.room + 1 }
     {
         let no = self.next;
-        let place = self.numbers.place(|numbered| numbered.key.cmp(&key));
-        self.numbers.insert(place, Numbered { key, no });
+        self.numbers
+            .put(Numbered { key, no }, |a, b| a.key.cmp(&b.key));
         self.records.push(Record { no, document });
         self.next = no + 1;
     }

@@ -1,20 +1,21 @@
 //! The documents of a collection in the order of the keys of their `_id`s.
 ghost use Rattle.std.specs.Prelude.{◌≡◌};
 ghost use Rattle.std.specs.Option.{option_copied};
-ghost use Rattle.coll_state.specs.Documents.{under, values_under, AreNumbered};
+ghost use Rattle.coll_state.specs.Documents.{under, values_under, records_in, AreNumbered};
 ghost use Rattle.coll_state.specs.Rows.{Rising};
 ghost use Rattle.coll_state.specs.Stock.{rows_in};
 
 use crate::collection::{Numbered, Record};
 use bson_view::Held;
+use sorted_list::{SortedList, Walk};
 use std::marker::Model;
 
 /// The documents that are still to come, in the order of the keys of their `_id`s: by the type byte, and
 /// then by the bytes. Each takes a search among the record numbers.
 #[derive(Drop)]
 pub struct Documents<'a> {
-    numbers: &'a [Numbered],
-    records: &'a [Record],
+    numbers: Walk<'a, Numbered>,
+    records: Option<&'a SortedList<Record>>,
 }
 
 impl<'a> Model for Documents<'a> {
@@ -27,26 +28,29 @@ impl<'a> Model for Documents<'a> {
 
     ghost coded = { coded_list value.the_row.coded };
 
-    ghost use Rattle.coll_state.specs.Documents.{values_under, AreNumbered};
+    ghost use Rattle.coll_state.specs.Documents.{values_under, records_in, AreNumbered};
 
-    ghost view = { λ d. values_under d.numbers.now d.records.now };
+    ghost view = { λ d. values_under d.numbers (records_in d.records) };
 
-    ghost invariant = { λ d. AreNumbered d.numbers.now d.records.now };
+    ghost invariant = { λ d. AreNumbered d.numbers (records_in d.records) };
 }
 
-fn record_under<'a>(records: &'a [Record], no: u128) -> Option<&'a Record>
-    ensures { Rising 0 (rows_in records.now) → option_copied result ≡ under records.now no }
+fn record_under<'a>(records: Option<&'a SortedList<Record>>, no: u128) -> Option<&'a Record>
+    ensures { Rising 0 (rows_in (records_in records.entry)) → option_copied result ≡ under (records_in records.entry) no }
 {
-    match records.binary_search_by(|record| record.no.cmp(&no)) {
-        Ok(at) => Some(&records[at]),
-        Err(_) => None,
+    match records {
+        Some(records) => records.find(|record| record.no.cmp(&no)),
+        None => None,
     }
 }
 
 impl<'a> Documents<'a> {
-    pub(crate) fn of(numbers: &'a [Numbered], records: &'a [Record]) -> Documents<'a>
-        requires { AreNumbered numbers.now records.now }
-        ensures { result ≡ values_under numbers.now records.now }
+    pub(crate) fn of(
+        numbers: Walk<'a, Numbered>,
+        records: Option<&'a SortedList<Record>>,
+    ) -> Documents<'a>
+        requires { AreNumbered numbers (records_in records) }
+        ensures { result ≡ values_under numbers.entry (records_in records.entry) }
     {
         Documents { numbers, records }
     }
@@ -64,12 +68,9 @@ impl<'a> Iterator for Documents<'a> {
     ghost remaining = { item_count (λ d. d) };
 
     fn next(&mut self) -> Option<Held<'a>> {
-        let (first, rest) = self.numbers.split_first()?;
+        let first = self.numbers.next()?;
         match record_under(self.records, first.no) {
-            Some(record) => {
-                self.numbers = rest;
-                Some(record.document.look())
-            }
+            Some(record) => Some(record.document.look()),
             None => unreachable!(),
         }
     }

@@ -8,7 +8,6 @@ mod documents;
 mod kept;
 mod laws;
 mod prepared;
-mod sorted;
 mod state;
 mod tables;
 mod walks;

@@ -23,6 +23,7 @@ use bson_value::{Bytes, Doc, List, NsName, Value};
 use bson_view::{DocumentBytes, Held};
 use containers::List as JList;
 use json_tree::{Fields, Tree};
+use sorted_list::Walk;
 use std::alloc::{AllocError, Global};
 use std::collections::BTreeMap;
 use std::marker::Model;
@@ -172,8 +173,8 @@ impl State {
         ensures { looks_left result ≡ looks (rows_after number n (map.get self.now.tables ns.now)) }
     {
         match tables::get(&self.tables, ns) {
-            Some(collection) => After::of(collection.after(number, n)),
-            None => After::of(&[]),
+            Some(collection) => After::of(collection.after(number), n),
+            None => After::of(Walk::none(), 0),
         }
     }
 
@@ -183,7 +184,7 @@ impl State {
     {
         match tables::get(&self.tables, ns) {
             Some(collection) => collection.documents(),
-            None => Documents::of(&[], &[]),
+            None => Documents::of(Walk::none(), None),
         }
     }
 

@@ -1,5 +1,5 @@
 //! Walks over the collections of a state, and over the documents of one.
-ghost use Rattle.std.specs.Prelude.{◌≡◌};
+ghost use Rattle.std.specs.Prelude.{◌≡◌, take};
 ghost use Rattle.std.specs.FinMap as map;
 ghost use Rattle.coll_state.specs.Stock.{rows_in};
 ghost use Rattle.coll_state.specs.Tables.{tables_in};
@@ -8,6 +8,7 @@ use crate::collection::{Collection, Record};
 use crate::tables::Tables;
 use bson_value::NsName;
 use bson_view::Held;
+use sorted_list::Walk;
 use std::collections::btree_map::Keys;
 
 /// The names of collections that are still to come, in order.
@@ -46,16 +47,17 @@ impl<'a> Iterator for Namespaces<'a> {
 /// The documents that are still to come, in record order, with their numbers.
 #[derive(Drop)]
 pub struct After<'a> {
-    records: &'a [Record],
+    records: Walk<'a, Record>,
+    left: usize,
 }
 
 impl<'a> After<'a> {
     ghost use Rattle.coll_state.specs.Walks.{looks, looks_left};
 
-    pub(crate) fn of(records: &'a [Record]) -> After<'a>
-        ensures { looks_left result ≡ looks (rows_in records.now) }
+    pub(crate) fn of(records: Walk<'a, Record>, left: usize) -> After<'a>
+        ensures { looks_left result ≡ looks (rows_in (take left records.entry)) }
     {
-        After { records }
+        After { records, left }
     }
 }
 
@@ -70,8 +72,8 @@ impl<'a> Iterator for After<'a> {
     ghost remaining = { item_count looks_left };
 
     fn next(&mut self) -> Option<(u128, Held<'a>)> {
-        let (first, rest) = self.records.split_first()?;
-        self.records = rest;
+        self.left = self.left.checked_sub(1)?;
+        let first = self.records.next()?;
         Some((first.no, first.document.look()))
     }
 }

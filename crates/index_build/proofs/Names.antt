@@ -12,7 +12,7 @@ use Rattle.json_tree.specs.declared.tree.Tree.{Tree}
 use Rattle.state_model.specs.Keys.{Key, key_cmp, same_key, same_ns}
 use Rattle.state_model.specs.States.{State, Collection}
 use Rattle.state_model.proofs.Keys.{key_total, key_anti, key_turn, ns_total, ns_anti, ns_turn}
-use Rattle.coll_state.specs.Order.{AllAbove, Behind, IsOrdered, found}
+use Rattle.sorted_list.specs.Order.{AllAbove, Behind, IsOrdered, found}
 use Rattle.coll_state.specs.Stock.{AllAfter, Rise, beside}
 use Rattle.coll_state.proofs.Keyed.{rise_ordered}
 use Rattle.index_build.specs.Documents.{documents}

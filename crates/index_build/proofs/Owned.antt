@@ -8,9 +8,9 @@ use Rattle.std.specs.declared.cmp.Ordering.{Ordering}
 use Rattle.state_model.specs.Keys.{Key, key_cmp, same_key}
 use Rattle.state_model.proofs.Keys.{key_total, key_anti, key_turn}
 use Rattle.state_model.proofs.Maps.{key_map_same, key_at_insert, key_at_remove, key_remove_same}
-use Rattle.coll_state.specs.Order.{IsOrdered, found, set_in, take_out, IsFound, IsGap}
+use Rattle.sorted_list.specs.Order.{IsOrdered, found, set_in, take_out, IsFound, IsGap}
 use Rattle.coll_state.specs.Stock.{AllAfter, Rise, beside}
-use Rattle.coll_state.proofs.Order.{put_at, set_at, take_at}
+use Rattle.sorted_list.proofs.Order.{put_at, set_at, take_at}
 use Rattle.coll_state.proofs.Keyed.{rise_ordered, found_put, found_set, found_take, rise_put, rise_set, rise_take}
 use Rattle.index_build.specs.declared.entry.Entry.{Entry}
 use Rattle.index_build.specs.Entries.{entry_key, owned_of, owned_in}

@@ -5,7 +5,7 @@ ghost use Rattle.std.specs.Fn.{ComputesKey};
 ghost use Rattle.std.specs.declared.cmp.Ordering.{Ordering as Order};
 ghost use Rattle.std.specs.FinMap as map;
 ghost use Rattle.state_model.specs.Keys.{key_cmp};
-ghost use Rattle.coll_state.specs.Order.{IsOrdered, found};
+ghost use Rattle.sorted_list.specs.Order.{IsOrdered, found};
 ghost use Rattle.coll_state.specs.Stock.{Rise};
 ghost use Rattle.index_build.specs.Numbers.{joined, number_at};
 ghost use Rattle.index_build.specs.Sorted.{numbers_told, index_name, AreByName};

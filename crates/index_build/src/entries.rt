@@ -5,7 +5,7 @@ ghost use Rattle.std.specs.FinMap as map;
 ghost use Rattle.std.specs.List.{list_any};
 ghost use Rattle.std.specs.List.Sorted.{IsSearchInRange};
 ghost use Rattle.state_model.specs.Keys.{key_cmp};
-ghost use Rattle.coll_state.specs.Order.{IsFound, IsGap};
+ghost use Rattle.sorted_list.specs.Order.{IsFound, IsGap};
 ghost use Rattle.coll_state.specs.Stock.{Rise, beside};
 ghost use Rattle.index_build.specs.Entries.{entry_key, owned_of, owned_in};
 ghost use Rattle.index_build.specs.Faults.{meet};

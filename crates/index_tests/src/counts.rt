@@ -127,7 +127,12 @@ fn parallel_shown(alloc: Global, place: &str, id: &Value) -> Result<String, Fail
     Ok(format!(in alloc; "parallel {place} {id}")?)
 }
 
-fn duplicate_shown(alloc: Global, place: &str, first: &Value, second: &Value) -> Result<String, Fail> {
+fn duplicate_shown(
+    alloc: Global,
+    place: &str,
+    first: &Value,
+    second: &Value,
+) -> Result<String, Fail> {
     let first = shown(alloc, first)?;
     let second = shown(alloc, second)?;
     Ok(format!(in alloc; "duplicate {place} {first} {second}")?)
@@ -145,7 +150,12 @@ fn fault_shown(alloc: Global, fault: &CountFault) -> Result<String, Fail> {
             index,
             first,
             second,
-        } => duplicate_shown(alloc, place_shown(alloc, ns, index.as_str())?.as_str(), first, second),
+        } => duplicate_shown(
+            alloc,
+            place_shown(alloc, ns, index.as_str())?.as_str(),
+            first,
+            second,
+        ),
     }
 }
 

@@ -88,7 +88,10 @@ fn keys_of_arrays(rt: HostRuntime) -> Result<(), Fail> {
         let (fields, rest) = line.split_once(' ').ok_or("no kind")?;
         let (kind, rest) = rest.split_once(' ').ok_or("no number")?;
         let (number, json) = rest.split_once(' ').ok_or("no document")?;
-        assert!(rt; count(rt.alloc(), fields, kind, json)? == number.parse::<usize>()?, "{line}");
+        assert!(rt;
+            count(rt.alloc(), fields, kind, json)? == number.parse::<usize>()?,
+            "{line}"
+        );
     }
     Ok(())
 }

@@ -1,6 +1,6 @@
 use Rattle.std.proofs.Common.{rules}
 use Rattle.std.proofs.lemmas.Fn.{always_returns_same}
-use Rattle.coll_state.proofs.Order.{searched}
+use Rattle.sorted_list.proofs.Order.{searched}
 use Rattle.coll_state.proofs.Parts.{at_name, names_ordered}
 use Rattle.coll_state.proofs.collection.place_of.Goals as goal
 

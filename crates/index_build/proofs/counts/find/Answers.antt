@@ -1,5 +1,5 @@
 use Rattle.std.proofs.Common.{refl}
-use Rattle.coll_state.proofs.Order.{find_ok, find_err}
+use Rattle.sorted_list.proofs.Order.{find_ok, find_err}
 use Rattle.index_build.proofs.counts.find.Goals as goal
 
 pub returns-in-Ok : goal.returns-in-Ok

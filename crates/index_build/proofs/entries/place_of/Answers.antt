@@ -1,6 +1,6 @@
 use Rattle.std.proofs.Common.{rules}
 use Rattle.std.proofs.lemmas.Fn.{always_returns_same}
-use Rattle.coll_state.proofs.Order.{searched}
+use Rattle.sorted_list.proofs.Order.{searched}
 use Rattle.index_build.proofs.Owned.{at_entry, entries_ordered}
 use Rattle.index_build.proofs.entries.place_of.Goals as goal
 

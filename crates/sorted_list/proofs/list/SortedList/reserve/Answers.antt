@@ -1,0 +1,16 @@
+use Rattle.std.proofs.Common.{List, ◌≡◌, ap, subst, sym, arith}
+use Rattle.sorted_list.specs.Chunks.{AreEmpty}
+use Rattle.sorted_list.proofs.Edits.{empty_push}
+use Rattle.sorted_list.proofs.list.SortedList.reserve.Goals as goal
+
+pub loop-preserved : goal.loop-preserved
+loop-preserved g c =
+    let i = c.loop.invariant in (
+      i.0,
+      i.1,
+      subst AreEmpty (sym c.in_ok-push.ensures.items) (empty_push c.loop.self-inside.spares.items c.in_ok-new.field-0 i.2 c.in_ok-new.ensures),
+      omega (arith, i.3, c.in_ok-push.ensures.len),
+      omega (arith, i.4, c.in_ok-push.ensures.len),
+      omega (arith, i.5, i.4, i.6, c.loop-test.true, c.in_ok-push.ensures.len),
+      i.6,
+    )

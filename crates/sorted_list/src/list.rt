@@ -1,0 +1,204 @@
+//! The list.
+ghost use Rattle.std.specs.Prelude.{◌≡◌, ◌+◌, ◌≤◌, [], ◌∷◌, ◌++◌, OnOk};
+ghost use Rattle.std.specs.Option.{option_copied};
+ghost use Rattle.std.specs.Fn.{ComputesKey};
+ghost use Rattle.std.specs.declared.cmp.Ordering.{Ordering as Order};
+ghost use Rattle.sorted_list.specs.Compare.{Compares};
+ghost use Rattle.sorted_list.specs.Order.{IsOrdered, found, from, put_in, set_in, take_out};
+
+use crate::chunk::{CHUNK_LEN, Chunk};
+use crate::parting::part;
+use crate::seats::seat;
+use crate::walk::Walk;
+use std::alloc::{AllocError, Global};
+use std::cmp::Ordering;
+use std::marker::Model;
+
+/// Elements in an order by which a search finds them. Contracts also see how many more there is room for.
+///
+/// They stand in chunks of up to 127. A search takes log n steps; to put an element in or to take one out moves at most
+/// those of a chunk, and once in some 64 times a pointer for each chunk behind it.
+#[derive(Drop)]
+pub struct SortedList<T> {
+    alloc: Global,
+    chunks: Vec<Chunk<T>>,
+    spares: Vec<Chunk<T>>,
+}
+
+impl<T> Model for SortedList<T> {
+    ghost use Rattle.std.specs.Prelude.{◌+◌, ◌≤◌, length};
+    ghost use Rattle.std.specs.Vec.{vec_capacity};
+    ghost use Rattle.sorted_list.specs.Order.{Shelf, shelf_code};
+    ghost use Rattle.sorted_list.specs.Chunks.{joined, AreRoomy, AreEmpty};
+
+    ghost Value = { Shelf T };
+
+    ghost coded = { shelf_code T.code };
+
+    ghost view = { λ s. record {
+      items = joined s.chunks.items;
+      room = length s.spares.items;
+    } };
+
+    ghost invariant = { λ s. AreRoomy s.chunks.items × AreEmpty s.spares.items × (length s.chunks.items + length s.spares.items ≤ vec_capacity s.chunks) };
+}
+
+impl<T> SortedList<T> {
+    /// No elements. It takes no memory.
+    pub fn new(alloc: Global) -> SortedList<T>
+        ensures { result.items ≡ [] }
+    {
+        SortedList {
+            alloc,
+            chunks: Vec::new(alloc),
+            spares: Vec::new(alloc),
+        }
+    }
+
+    /// The element that is sought.
+    pub fn find<F: Fn(&T) -> Ordering>(&self, order: F) -> Option<&T>
+        requires { F.IsAlwaysCallable order }
+        ensures { (ord : T → Order) → ComputesKey F.FnMut ord order → IsOrdered ord self.now.items → option_copied result ≡ found ord self.now.items }
+    {
+        let at = seat(self.chunks.as_slice(), &order);
+        if at < self.chunks.len() {
+            self.chunks[at].find(order)
+        } else {
+            None
+        }
+    }
+}
+
+impl<T> SortedList<T> {
+    /// All elements.
+    pub fn walk(&self) -> Walk<'_, T>
+        ensures { result ≡ self.now.items }
+    {
+        Walk::of(&[], self.chunks.as_slice())
+    }
+
+    /// The elements but for those that are below what is sought.
+    pub fn walk_from<F: Fn(&T) -> Ordering>(&self, order: F) -> Walk<'_, T>
+        requires { F.IsAlwaysCallable order }
+        ensures { (ord : T → Order) → ComputesKey F.FnMut ord order → IsOrdered ord self.now.items → result ≡ from ord self.now.items }
+    {
+        let at = seat(self.chunks.as_slice(), &order);
+        if at < self.chunks.len() {
+            let place = self.chunks[at].place(order);
+            Walk::of(
+                &self.chunks[at].as_slice()[place..],
+                &self.chunks.as_slice()[at + 1..],
+            )
+        } else {
+            Walk::of(&[], &[])
+        }
+    }
+}
+
+impl<T: Drop> SortedList<T> {
+    /// Room for so many more.
+    #[tactic(auto, using(crate::proofs::Edits::empty_push))]
+    pub fn reserve(&mut self, more: usize) -> Result<(), AllocError>
+        ensures items { self.new.items ≡ self.old.items }
+        ensures room { self.old.room ≤ self.new.room }
+        ensures ok { OnOk result (more ≤ self.new.room) }
+    {
+        self.chunks.reserve(more)?;
+        for _ in self.spares.len()..more {
+            self.spares.push(Chunk::new(self.alloc)?)?;
+        }
+        Ok(())
+    }
+
+    /// The element in the place of what is sought, where that is there.
+    pub fn set<F: Fn(&T) -> Ordering>(&mut self, item: T, order: F)
+        requires { F.IsAlwaysCallable order }
+        ensures items { (ord : T → Order) → ComputesKey F.FnMut ord order → IsOrdered ord self.old.items → self.new.items ≡ set_in ord item self.old.items }
+        ensures room { self.new.room ≡ self.old.room }
+    {
+        let at = seat(self.chunks.as_slice(), &order);
+        if at < self.chunks.len() {
+            self.chunks[at].set(item, order);
+        }
+    }
+
+    // The first element of all.
+    fn begin(&mut self, item: T)
+        requires none { self.old.items ≡ [] }
+        requires room { 1 ≤ self.old.room }
+        ensures items { self.new.items ≡ item ∷ [] }
+        ensures room { self.old.room ≡ self.new.room + 1 }
+    {
+        let Some(mut chunk) = self.spares.pop() else {
+            unreachable!();
+        };
+        chunk.push(item);
+        match self.chunks.push(chunk) {
+            Ok(_) => {}
+            Err(_) => unreachable!(),
+        }
+    }
+
+    /// The element in its place by this order: in front of the first that isn't below it.
+    pub fn put<F: Fn(&T, &T) -> Ordering>(&mut self, item: T, order: F)
+        requires room { 1 ≤ self.old.room }
+        requires call { F.IsAlwaysCallable order }
+        ensures items { (cmp : T → T → Order) → Compares F.FnMut cmp order → IsOrdered (λ x. cmp x item) self.old.items → self.new.items ≡ put_in (λ x. cmp x item) item self.old.items }
+        ensures room { self.old.room ≤ self.new.room + 1 }
+    {
+        if self.chunks.is_empty() {
+            self.begin(item);
+            return;
+        }
+        let beside = |other: &T| -> Ordering
+            requires { F.IsAlwaysCallable order }
+            ensures { (cmp : T → T → Order) → Compares F.FnMut cmp order → result ≡ cmp other.now item }
+        { order(other, &item) };
+        let seat = seat(self.chunks.as_slice(), &beside);
+        let at = if seat < self.chunks.len() {
+            seat
+        } else {
+            seat - 1
+        };
+        let place = self.chunks[at].place(beside);
+        self.chunks[at].insert(place, item);
+        if self.chunks[at].len() == CHUNK_LEN {
+            part(&mut self.chunks, &mut self.spares, at);
+        }
+    }
+
+    /// The element behind all others.
+    pub fn push(&mut self, item: T)
+        requires { 1 ≤ self.old.room }
+        ensures items { self.new.items ≡ self.old.items ++ item ∷ [] }
+        ensures room { self.old.room ≤ self.new.room + 1 }
+    {
+        if self.chunks.is_empty() {
+            self.begin(item);
+            return;
+        }
+        let at = self.chunks.len() - 1;
+        self.chunks[at].push(item);
+        if self.chunks[at].len() == CHUNK_LEN {
+            part(&mut self.chunks, &mut self.spares, at);
+        }
+    }
+
+    /// Takes out what is sought.
+    pub fn remove<F: Fn(&T) -> Ordering>(&mut self, order: F) -> Option<T>
+        requires { F.IsAlwaysCallable order }
+        ensures value { (ord : T → Order) → ComputesKey F.FnMut ord order → IsOrdered ord self.old.items → result ≡ found ord self.old.items }
+        ensures items { (ord : T → Order) → ComputesKey F.FnMut ord order → IsOrdered ord self.old.items → self.new.items ≡ take_out ord self.old.items }
+        ensures room { self.new.room ≡ self.old.room }
+    {
+        let at = seat(self.chunks.as_slice(), &order);
+        if self.chunks.len() <= at {
+            return None;
+        }
+        let item = self.chunks[at].remove(order);
+        if self.chunks[at].len() == 0 {
+            let _ = self.chunks.remove(at);
+        }
+        item
+    }
+}

@@ -1,0 +1,35 @@
+//! The chunk to which a search leads.
+ghost use Rattle.std.specs.Prelude.{◌≡◌, ◌≤◌, length};
+ghost use Rattle.std.specs.Fn.{ComputesKey};
+ghost use Rattle.std.specs.declared.cmp.Ordering.{Ordering as Order};
+ghost use Rattle.sorted_list.specs.Order.{IsOrdered};
+ghost use Rattle.sorted_list.specs.Chunks.{joined, AreRoomy, last_of, ends_below, is_below, side, seat};
+
+use crate::chunk::Chunk;
+use std::cmp::Ordering;
+
+/// How many chunks end below what is sought.
+pub(crate) fn seat<T, F: Fn(&T) -> Ordering>(chunks: &[Chunk<T>], order: &F) -> usize
+    requires { F.IsAlwaysCallable order.now }
+    ensures bound { result ≤ length chunks.now }
+    ensures seat { (ord : T → Order) → ComputesKey F.FnMut ord order.now → AreRoomy chunks.now → IsOrdered ord (joined chunks.now) → result ≡ seat ord chunks.now }
+{
+    let found = chunks.binary_search_by(
+        |chunk: &Chunk<T>| -> Ordering
+            requires { F.IsAlwaysCallable order.now }
+            ensures { (ord : T → Order) → ComputesKey F.FnMut ord order.entry.now → result ≡ side (ends_below ord chunk.now) }
+        {
+            match chunk.last() {
+                Some(item) => match order(item) {
+                    Ordering::Less => Ordering::Less,
+                    _ => Ordering::Greater,
+                },
+                None => Ordering::Greater,
+            }
+        },
+    );
+    match found {
+        Ok(at) => at,
+        Err(at) => at,
+    }
+}
