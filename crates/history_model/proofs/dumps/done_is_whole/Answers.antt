@@ -1,0 +1,5 @@
+use Rattle.history_model.proofs.Finished.{run_whole}
+use Rattle.history_model.proofs.dumps.done_is_whole.Goals as goal
+
+pub returns : goal.returns
+returns c = λ sound s done. run_whole sound s done

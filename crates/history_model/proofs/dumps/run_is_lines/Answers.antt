@@ -1,0 +1,5 @@
+use Rattle.history_model.proofs.WholeRun.{run_started}
+use Rattle.history_model.proofs.dumps.run_is_lines.Goals as goal
+
+pub returns : goal.returns
+returns c = λ sound s. run_started sound s

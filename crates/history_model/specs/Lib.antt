@@ -1,0 +1,11 @@
+pub mod Documents
+pub mod Entries
+pub mod Stages
+pub mod Refusals
+pub mod Commands
+pub mod Runs
+pub mod Histories
+pub mod Recordings
+pub mod Invariants
+pub mod Indexes
+pub mod Laws

@@ -1,0 +1,12 @@
+pub mod Cuts
+pub mod VerbWords
+pub mod LineEnds
+pub mod DrillRows
+pub mod ReadLoop
+pub mod Texts
+pub mod Names
+pub mod OperandTexts
+pub mod Said
+pub mod SaidBack
+pub mod Steps
+pub mod StepsBack

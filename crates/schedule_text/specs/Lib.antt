@@ -1,0 +1,8 @@
+pub mod DrillText
+pub mod Lines
+pub mod Words
+pub mod Operands
+pub mod Statements
+pub mod Reading
+pub mod Grammar
+pub mod Laws
