@@ -1,0 +1,5 @@
+use Rattle.update_replay.proofs.Replayed.{second_form_replays}
+use Rattle.update_replay.proofs.laws.second_form_is_replayed.Goals as goal
+
+pub returns : goal.returns
+returns c = second_form_replays

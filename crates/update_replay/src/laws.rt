@@ -1,0 +1,21 @@
+//! Laws of updates that are replayed. Each function does nothing, and its caller learns the law.
+ghost use Rattle.update_replay.specs.Laws.{NamesRecord, FirstFormRecords, FirstFormReplays, SecondFormReplays};
+
+/// What is recorded in the second form is recorded in the first one, with the names of digits for
+/// indexes.
+pub fn names_record()
+    ensures { NamesRecord }
+{}
+
+/// The touches of an accepted update in the first form record it. Played on the document before it, they
+/// give one that is equal to the document after it up to the order of fields. The operators are those of
+/// a document.
+pub fn first_form_is_replayed()
+    ensures records { FirstFormRecords }
+    ensures replays { FirstFormReplays }
+{}
+
+/// The same in the second form of an update whose touches have no Resize.
+pub fn second_form_is_replayed()
+    ensures { SecondFormReplays }
+{}
