@@ -5,15 +5,10 @@ use Rattle.bson_value.specs.declared.value.Value.{Value, Object}
 use Rattle.bson_value.specs.declared.value.Ts.{Ts}
 use Rattle.bson_value.specs.Spelling.{document_text}
 use Rattle.bson_encode.specs.Key.{key_of}
-use Rattle.doc_path.specs.declared.parts.Part.{Part}
-use Rattle.doc_path.specs.declared.parts.Part.TheVariants.{Name as name}
 use Rattle.doc_path.specs.declared.parts.Form.{Form}
 use Rattle.doc_path.specs.declared.parts.Form.TheVariants.{V1, V2}
 use Rattle.doc_path.specs.declared.touches.Touch.{Touch}
-use Rattle.doc_path.specs.declared.touches.Touch.TheVariants.{Set, Unset, Resize}
-use Rattle.doc_path.specs.Touch.{key_of as part_key}
 use Rattle.doc_path.specs.Played.{touch_of}
-use Rattle.doc_path.specs.Ways.{value_in}
 use Rattle.extjson.specs.Values.{value_of}
 use Rattle.json_tree.specs.declared.tree.Tree.{Tree}
 use Rattle.state_model.specs.Moves.{Move}
@@ -22,6 +17,7 @@ use Rattle.state_model.specs.Windows.{joined}
 use Rattle.coll_state.specs.Rows.{Document as Fields}
 use Rattle.coll_state.specs.Definitions.{definition_name}
 use Rattle.update_model.specs.Updating.{fields_of}
+use Rattle.update_replay.specs.Forms.{first_form}
 use Rattle.entry_model.specs.declared.entry.Action.{Action}
 use Rattle.entry_model.specs.declared.entry.Action.TheVariants as actions
 use Rattle.entry_model.specs.declared.entry.Entry.{Entry}
@@ -41,21 +37,9 @@ touches_in (Err e) = []
 abbrev pub in_order : Form → List Touch → List Touch
 in_order f ts = touches_in (touches_read (suc level_limit) (written f level_limit ts))
 
-abbrev pub as_name : Part → Part
-as_name p = name (part_key p)
-
-abbrev pub set_whole : List Part → Option Value → ℕ → Touch
-set_whole ps (Some a) n = Set ps a false
-set_whole ps None n = Resize ps n
-
 -- the first form has names alone, nothing that is new, and no lengths: the array as it stands after the update is set
-abbrev pub in_first_form : Value → Touch → Touch
-in_first_form new (Set ps a fresh) = Set (each as_name ps) a false
-in_first_form new (Unset ps) = Unset (each as_name ps)
-in_first_form new (Resize ps n) = set_whole (each as_name ps) (value_in ps new) n
-
 unfoldable pub written_form : Form → Fields → List Touch → List Touch
-written_form V1 new ts = in_order V1 (each (in_first_form (Object new)) ts)
+written_form V1 new ts = in_order V1 (each (first_form (Object new)) ts)
 written_form V2 new ts = in_order V2 ts
 
 -- ---- entries
