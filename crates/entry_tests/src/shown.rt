@@ -88,7 +88,7 @@ fn indexes_shown(alloc: Global, defs: &[Doc]) -> Result<String, Fail> {
 }
 
 // Of a group only that it is one.
-fn action_shown(alloc: Global, action: &Action) -> Result<String, Fail> {
+pub(crate) fn action_shown(alloc: Global, action: &Action) -> Result<String, Fail> {
     match action {
         Action::Nothing => Ok(String::from_str(alloc, "nothing")?),
         Action::Put { doc } => {

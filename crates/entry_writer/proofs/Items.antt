@@ -55,3 +55,6 @@ entry_put e a0 a1 a2 a3 a4 h0 h1 h2 h3 h4 =
     let behind : a3 ≡ a1 ++ elements_of (body_fields (body_of e) last) = both_put a1 a2 a3 (whole_fields e) last h2 h3 ∙ ap (λ (fs : Fields). a1 ++ elements_of fs) (body_tail (body_of e) last) in
     let whole : a3 ≡ a0 ++ elements_of (entry_fields e) = both_put a0 a1 a3 (front e) (body_fields (body_of e) last) h1 behind in
     h4 ∙ ap (λ (l : List ℕ). framed (drop 4 l)) (whole ∙ ap (λ (l : List ℕ). l ++ elements_of (entry_fields e)) h0)
+
+pub fields_put : (fs : Fields) (a0 a1 a2 : List ℕ) → a0 ≡ 0 ∷ (0 ∷ (0 ∷ (0 ∷ []))) → a1 ≡ a0 ++ elements_of fs → a2 ≡ take (4 - 4) a1 ++ framed (drop 4 a1) → a2 ≡ document_text fs
+fields_put fs a0 a1 a2 h0 h1 h2 = h2 ∙ ap (λ (l : List ℕ). framed (drop 4 l)) (h1 ∙ ap (λ (l : List ℕ). l ++ elements_of fs) h0)

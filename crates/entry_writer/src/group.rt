@@ -3,12 +3,14 @@ ghost use Rattle.std.specs.Prelude.{◌≡◌, ◌∷◌, ◌++◌, [], codes, p
 ghost use Rattle.std.specs.Fmt.{decimal};
 ghost use Rattle.bson_value.specs.declared.value.Value.{Array, Stamp, Long};
 ghost use Rattle.bson_value.specs.Spelling.{spelling, element, elements_of, items_of, document_text};
-ghost use Rattle.entry_model.specs.Spelling.{command_body, body_fields, item_value, wall, entry_fields};
+ghost use Rattle.entry_model.specs.Spelling.{command_body, body_fields, item_value, wall, entry_fields, level_limit};
+ghost use Rattle.entry_model.specs.Touches.{written};
 ghost use Rattle.entry_writer.specs.Bodies.{whole_fields};
 
-use crate::body::{namespace_text, put_head, put_plain};
+use crate::body::{namespace_text, put_form, put_head, put_plain};
 use crate::elements::{close, open, open_array, put_element};
 use bson_value::{Bytes, NsName, Ts, Value};
+use doc_path::{Form, Touch};
 use entry_model::{Action, Entry};
 use std::alloc::{AllocError, Global};
 
@@ -93,6 +95,18 @@ pub fn write(alloc: Global, entry: &Entry) -> Result<Bytes, AllocError>
     put_front(&mut out, entry.ts)?;
     put_body(alloc, &mut out, entry)?;
     put_own(&mut out, "wall", wall(entry.ts.secs))?;
+    close(&mut out, 4)?;
+    Ok(Bytes::from_vec(out))
+}
+
+/// The bytes of a delta in this form: the document that an update's entry has in its field `o`.
+/// The time is that of the bytes, and in the second form also that of the touches times the documents and elements of the diff.
+pub fn write_delta(alloc: Global, form: Form, touches: &[Touch]) -> Result<Bytes, AllocError>
+    ensures { IfOk result (λ bytes. bytes ≡ document_text (written form level_limit touches.now)) }
+{
+    let mut out = Vec::new(alloc);
+    out.extend_from_slice(&[0, 0, 0, 0])?;
+    put_form(alloc, &mut out, form, touches)?;
     close(&mut out, 4)?;
     Ok(Bytes::from_vec(out))
 }

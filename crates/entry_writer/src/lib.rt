@@ -11,4 +11,4 @@ mod names;
 mod parts;
 mod paths;
 
-pub use group::write;
+pub use group::{write, write_delta};

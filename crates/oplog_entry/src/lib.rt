@@ -12,3 +12,4 @@ mod update;
 
 pub use entry_model::{Action, Entry, EntryFault};
 pub use reading::{head, read};
+pub use update::read_delta;

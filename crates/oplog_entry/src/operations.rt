@@ -7,7 +7,7 @@ ghost use Rattle.oplog_entry.specs.Parts.{updated_id};
 
 use crate::commands::command;
 use crate::fields::{document_field, id_field, missing};
-use crate::update::delta;
+use crate::update::read_delta;
 use bson_value::{Doc, NsName, Text, Value};
 use entry_model::{Action, EntryFault};
 use std::alloc::Global;
@@ -66,7 +66,7 @@ fn update(alloc: Global, ns: NsName, doc: &Doc) -> Result<(NsName, Action), Entr
         let doc = o.copy(alloc)?;
         return Ok((ns, Action::Whole { id, doc }));
     }
-    let (form, touches) = delta(alloc, o)?;
+    let (form, touches) = read_delta(alloc, o)?;
     let id = updated_id(alloc, doc)?;
     Ok((ns, Action::Delta { id, form, touches }))
 }

@@ -106,9 +106,10 @@ fn lacks_diff(form: Form, o: &Doc) -> bool
     }
 }
 
-/// The form and the touches of an update's fields.
+/// The form and the touches of a delta: the document that an update's entry has in its field `o`, where its first name
+/// begins with `$`. Else the first fault in it.
 #[tactic(auto, using(crate::proofs::Forms::delta_touches, crate::proofs::Forms::delta_lacks, crate::proofs::Forms::delta_fails))]
-pub(crate) fn delta(alloc: Global, o: &Doc) -> Result<(Form, List<Touch>), EntryFault>
+pub fn read_delta(alloc: Global, o: &Doc) -> Result<(Form, List<Touch>), EntryFault>
     ensures { Gives result (touches_read (suc level_limit) o.now) }
 {
     let form = form_of(alloc, o)?;

@@ -1,0 +1,67 @@
+-- The action that records an update: a delta of its touches, or the whole document where the delta is longer.
+use Rattle.std.specs.Prelude.{ℕ, suc, List, length, map, false, Option, Some, None, Result, Ok, Err, if◌then◌else◌, nat_lt}
+use Rattle.bson_value.specs.declared.value.Value.{Value, Object}
+use Rattle.bson_value.specs.Spelling.{document_text}
+use Rattle.bson_check.specs.declared.fault.BsonFault.{BsonFault}
+use Rattle.bson_check.specs.Reading.{document_of}
+use Rattle.doc_path.specs.declared.parts.Part.{Part}
+use Rattle.doc_path.specs.declared.parts.Form.{Form}
+use Rattle.doc_path.specs.declared.parts.Form.TheVariants.{V1, V2}
+use Rattle.doc_path.specs.declared.touches.Touch.{Touch}
+use Rattle.doc_path.specs.declared.touches.Touch.TheVariants.{Set, Unset, Resize}
+use Rattle.doc_path.specs.Ways.{value_in}
+use Rattle.entry_model.specs.declared.entry.Action.{Action}
+use Rattle.entry_model.specs.declared.entry.Action.TheVariants.{Whole, Delta}
+use Rattle.entry_model.specs.Written.{Fields}
+use Rattle.entry_model.specs.Touches.{written, touches_read}
+use Rattle.entry_model.specs.Reading.{Read}
+use Rattle.entry_model.specs.Spelling.{level_limit}
+
+-- ---- in the first form a Set of the whole array stands for a length
+
+abbrev pub set_or_length : List Part → ℕ → Option Value → Touch
+set_or_length place n None = Resize place n
+set_or_length place n (Some a) = Set place a false
+
+-- new is the document after the update
+abbrev pub whole_array : Value → Touch → Touch
+whole_array new (Set place a fresh) = Set place a fresh
+whole_array new (Unset place) = Unset place
+whole_array new (Resize place n) = set_or_length place n (value_in place new)
+
+abbrev pub in_form : Form → Value → List Touch → List Touch
+in_form V1 new ts = map (whole_array new) ts
+in_form V2 new ts = ts
+
+-- ---- the delta, and its reading
+
+abbrev pub delta_text : Form → Fields → List Touch → List ℕ
+delta_text form new ts = document_text (written form level_limit (in_form form (Object new) ts))
+
+-- the touches of these fields, in their order
+abbrev pub read_or_none : Read (Form × List Touch) → Option (Form × List Touch)
+read_or_none (Ok r) = Some r
+read_or_none (Err e) = None
+
+abbrev pub touches_in : Result Fields BsonFault → Option (Form × List Touch)
+touches_in (Ok o) = read_or_none (touches_read (suc level_limit) o)
+touches_in (Err e) = None
+
+-- no entry has more bytes
+abbrev pub byte_limit : ℕ
+byte_limit = 16793600
+
+abbrev pub delta_of : Form → Fields → List Touch → Option (Form × List Touch)
+delta_of form new ts = touches_in (document_of byte_limit level_limit (delta_text form new ts))
+
+-- ---- the action
+
+-- the whole document stands for a delta that isn't read again
+abbrev pub delta_or_whole : Value → Fields → Option (Form × List Touch) → Action
+delta_or_whole id new (Some r) = Delta id r.0 r.1
+delta_or_whole id new None = Whole id new
+
+abbrev pub action_of : Form → Value → Fields → List Touch → Action
+action_of form id new ts =
+    if nat_lt (length (document_text new)) (length (delta_text form new ts)) then Whole id new
+    else delta_or_whole id new (delta_of form new ts)
