@@ -41,7 +41,7 @@ meet_turned : (a b : Texts) → meet a b ≡ true → meet b a ≡ true
 meet_turned a b e = let r = shared a b e in both_have r.0 b a r.2 r.1
 
 -- none of the entries has the property
-none_is : (p : Key × Texts → Bool) (es : List (Key × Texts)) (j : Key) (ts : Texts) → first_where p es ≡ None → map.find key_cmp j es ≡ Some ts → p (j, ts) ≡ false
+pub none_is : (p : Key × Texts → Bool) (es : List (Key × Texts)) (j : Key) (ts : Texts) → first_where p es ≡ None → map.find key_cmp j es ≡ Some ts → p (j, ts) ≡ false
 none_is p [] j ts none e = cc
 none_is p (x ∷ es) j ts none e = by (cases_Bool (p x)) (cases_Bool (same_key j x.0)) (λ n f. none_is p es j ts n f)
   where

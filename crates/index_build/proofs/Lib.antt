@@ -7,4 +7,6 @@ pub mod Owned
 pub mod Told
 pub mod Built
 pub mod Apart
+pub mod Searches
+pub mod Swapped
 pub mod Alike

@@ -8,4 +8,5 @@ pub mod Counting
 pub mod Sorted
 pub mod Owned
 pub mod Entries
+pub mod Holders
 pub mod Laws

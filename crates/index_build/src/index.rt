@@ -1,5 +1,6 @@
 //! An index that is kept up as documents come and go.
-ghost use Rattle.std.specs.Prelude.{◌≡◌, ◌≤◌, ◌&&◌, IfOk, IfErr, OnOk, OnErr, Some, None, is_some, true, false, min, option_map};
+ghost use Rattle.std.specs.Prelude.{◌≡◌, ◌≤◌, IfOk, IfErr, OnOk, OnErr, Some, None, is_some, true, false, min, option_map, suc, ℕ, List, length};
+ghost use Rattle.index_build.specs.Faults.{or_else};
 ghost use Rattle.std.specs.FinMap as map;
 ghost use Rattle.bson_encode.specs.Key.{key_of};
 ghost use Rattle.bson_view.specs.Held.{held_document};
@@ -7,12 +8,13 @@ ghost use Rattle.state_model.specs.Keys.{key_cmp};
 ghost use Rattle.coll_state.specs.Stock.{Rise};
 ghost use Rattle.index_keys.specs.Keys.{parallel};
 ghost use Rattle.index_keys.specs.Texts.{key_texts};
-ghost use Rattle.index_build.specs.Entries.{entry_key, owned_of, owned_in, exchanged, room_for};
-ghost use Rattle.index_build.specs.Owned.{refusal, refusal_if, refusal_by, other_has, put_document, pairs_in, texts_count, shared_fault, IsIndexFault};
-ghost use Rattle.index_build.specs.Repeats.{first_where};
+ghost use Rattle.index_build.specs.Entries.{entry_key, owned_of, owned_in, exchanged, room_for, exchange_refusal};
+ghost use Rattle.index_build.specs.Holders.{holder_key, found_key, id_in, holder_of, held_by, released, room_in};
+ghost use Rattle.index_build.specs.Owned.{refusal, refusal_if, refusal_by, first_other, put_document, pairs_in, texts_count, shared_fault, IsIndexFault};
 
-use crate::entries::{first_other, put, remove};
+use crate::entries::{Entries, find, put, remove};
 use crate::entry::Entry;
+use crate::holders::{Holder, Holders};
 use crate::index_fault::IndexFault;
 use crate::swap::Swap;
 use bson_encode::put_key;
@@ -22,31 +24,31 @@ use index_keys::{Key, KeyFault, Keys, Plan, keys};
 use std::alloc::{AllocError, Global};
 use std::marker::Model;
 
-/// An index over the documents that were put in: their keys, under the keys of their `_id`s.
+/// An index over the documents that were put in: their keys, under the keys of their `_id`s. A unique one also
+/// knows who has a key.
 ///
-/// Contracts also see how many documents more it has room for (`spare`).
+/// Contracts also see how much room it has (`spare`): one more than the number of keys of a document that a swap
+/// may put in.
 #[derive(Drop)]
 pub struct Index {
     plan: Plan,
-    entries: Vec<Entry>,
+    entries: Entries,
+    holders: Holders,
 }
 
 impl Model for Index {
-    ghost use Rattle.std.specs.Prelude.{◌-◌, length};
-    ghost use Rattle.std.specs.Vec.{vec_capacity};
-    ghost use Rattle.state_model.specs.Keys.{key_cmp};
-    ghost use Rattle.coll_state.specs.Stock.{Rise};
     ghost use Rattle.index_build.specs.Owned.{Holding, holding_code};
 
     ghost Value = { Holding };
 
     ghost coded = { holding_code };
 
-    ghost use Rattle.index_build.specs.Entries.{entry_key, owned_in};
+    ghost use Rattle.index_build.specs.Entries.{owned_in};
+    ghost use Rattle.index_build.specs.Holders.{room_in, spare_in, AreKept};
 
-    ghost view = { λ i. record { plan = i.plan; owned = owned_in i.entries.items; spare = vec_capacity i.entries - length i.entries.items } };
+    ghost view = { λ i. record { plan = i.plan; owned = owned_in i.entries.items; spare = spare_in i.entries.room (room_in i.holders.recent) } };
 
-    ghost invariant = { λ i. Rise key_cmp entry_key i.entries.items };
+    ghost invariant = { λ i. AreKept i.plan i.entries.items i.holders.recent.items i.holders.settled.items };
 }
 
 // The key of an `_id`.
@@ -82,83 +84,55 @@ fn duplicate(alloc: Global, first: &Value, second: &Value) -> Result<IndexFault,
     })
 }
 
-// The fault that another document has one of the keys, where the index is unique.
-fn no_other(
-    alloc: Global,
-    unique: bool,
-    entries: &[Entry],
-    id: &Value,
-    key: &Bytes,
-    keys: &[Key],
-) -> Result<(), IndexFault>
-    ensures apart { OnOk result (refusal_by false unique (first_where (other_has key.now keys.now) (owned_of entries.now)) ≡ None) }
-    ensures fault { IfErr result (λ e. IsIndexFault e id.now (refusal_by false unique (first_where (other_has key.now keys.now) (owned_of entries.now)))) }
+// A document with its keys.
+fn holders_of(alloc: Global, id: &Bytes, keys: &[Key]) -> Result<Vec<Holder>, AllocError>
+    ensures { IfOk result (λ hs. hs.items ≡ held_by id.now keys.now) }
 {
-    if !unique {
-        return Ok(());
+    let mut holders = Vec::new(alloc);
+    for key in keys {
+        holders.push(Holder {
+            key: key.copy(alloc)?,
+            id: id.copy(alloc)?,
+        })?;
     }
-    match first_other(entries, key, keys) {
-        None => Ok(()),
-        Some(other) => Err(duplicate(alloc, &other.id, id)?),
+    Ok(holders)
+}
+
+// Nobody has the keys of this document any more.
+fn release(entries: &Entries, holders: &mut Holders, id: &Bytes)
+    requires entries { Rise key_cmp entry_key entries.now.items }
+    requires rise { Rise key_cmp holder_key holders.old.settled.items }
+    ensures rise { Rise key_cmp holder_key holders.new.settled.items }
+    ensures holders { (t : List ℕ) → holder_of holders.new.recent.items holders.new.settled.items t ≡ released (map.get (owned_in entries.now.items) id.now) (holder_of holders.old.recent.items holders.old.settled.items) t }
+    ensures room { room_in holders.old.recent ≤ room_in holders.new.recent }
+{
+    if let Some(entry) = find(entries, id) {
+        holders.take_all(entry.keys.as_slice());
     }
 }
 
-// The keys of a document that may be taken in.
-fn allowed(
-    alloc: Global,
-    plan: &Plan,
-    entries: &[Entry],
-    id: &Value,
-    key: &Bytes,
-    doc: Held<'_>,
-) -> Result<Keys, IndexFault>
-    requires rise { Rise key_cmp entry_key entries.now }
-    ensures keys { IfOk result (λ ks. ks ≡ key_texts plan.now (held_document doc.entry)) }
-    ensures allowed { OnOk result (refusal plan.now key.now (held_document doc.entry) (owned_in entries.now) ≡ None) }
-    ensures fault { IfErr result (λ e. IsIndexFault e id.now (refusal plan.now key.now (held_document doc.entry) (owned_in entries.now))) }
+// In a unique index, the holders of a document's keys in the place of those that it had.
+fn hand_over(unique: bool, entries: &Entries, holders: &mut Holders, id: &Bytes, own: Vec<Holder>)
+    requires entries { Rise key_cmp entry_key entries.now.items }
+    requires rise { Rise key_cmp holder_key holders.old.settled.items }
+    requires room { unique ≡ true → length own.items ≤ room_in holders.old.recent }
+    ensures rise { Rise key_cmp holder_key holders.new.settled.items }
+    ensures holders { unique ≡ true → (t : List ℕ) → holder_of holders.new.recent.items holders.new.settled.items t ≡ or_else (released (map.get (owned_in entries.now.items) id.now) (holder_of holders.old.recent.items holders.old.settled.items) t) (id_in (found_key t own.items)) }
 {
-    let keys = match own_keys(alloc, plan, id, doc) {
-        Ok(keys) => keys,
-        Err(e) => return Err(e),
-    };
-    match no_other(alloc, plan.unique(), entries, id, key, keys.as_slice()) {
-        Ok(_) => Ok(keys),
-        Err(e) => Err(e),
+    if unique {
+        release(entries, holders, id);
+        holders.give_all(own);
     }
-}
-
-// The entry of a document that may be taken in.
-fn entry_of(
-    alloc: Global,
-    plan: &Plan,
-    entries: &[Entry],
-    id: &Value,
-    doc: Held<'_>,
-) -> Result<Entry, IndexFault>
-    requires rise { Rise key_cmp entry_key entries.now }
-    ensures key { IfOk result (λ e. e.key ≡ key_of id.now) }
-    ensures keys { IfOk result (λ e. e.keys ≡ key_texts plan.now (held_document doc.entry)) }
-    ensures allowed { OnOk result (refusal plan.now (key_of id.now) (held_document doc.entry) (owned_in entries.now) ≡ None) }
-    ensures fault { IfErr result (λ e. IsIndexFault e id.now (refusal plan.now (key_of id.now) (held_document doc.entry) (owned_in entries.now))) }
-{
-    let key = key_of(alloc, id)?;
-    let keys = match allowed(alloc, plan, entries, id, &key, doc) {
-        Ok(keys) => keys,
-        Err(e) => return Err(e),
-    };
-    let id = id.copy(alloc)?;
-    Ok(Entry { key, id, keys })
 }
 
 // The number of pairs, at most 2^64 - 1.
-fn total(entries: &[Entry]) -> u64
-    ensures { result ≡ min (texts_count (owned_of entries.now)) 18446744073709551615 }
+fn total(entries: &Entries) -> u64
+    ensures { result ≡ min (texts_count (owned_of entries.now.items)) 18446744073709551615 }
 {
     let mut count: u64 = 0;
-    let mut left = entries;
-    while let Some((entry, rest)) = left.split_first() {
+    let mut left = entries.walk();
+    while let Some(entry) = left.next() {
         count = count.saturating_add(entry.keys.len() as u64);
-        left = rest;
     }
     count
 }
@@ -171,7 +145,8 @@ impl Index {
     {
         Index {
             plan,
-            entries: Vec::new(alloc),
+            entries: Entries::new(alloc),
+            holders: Holders::new(alloc),
         }
     }
 
@@ -180,7 +155,52 @@ impl Index {
     pub fn len(&self) -> u64
         ensures { result ≡ min (pairs_in self.now.owned) 18446744073709551615 }
     {
-        total(self.entries.as_slice())
+        total(&self.entries)
+    }
+
+    // The fault that another document has one of the keys, where the index is unique.
+    fn no_other(
+        &self,
+        alloc: Global,
+        id: &Value,
+        key: &Bytes,
+        keys: &[Key],
+    ) -> Result<(), IndexFault>
+        ensures apart { OnOk result (refusal_by false self.now.plan.unique (first_other key.now keys.now self.now.owned) ≡ None) }
+        ensures fault { IfErr result (λ e. IsIndexFault e id.now (refusal_by false self.now.plan.unique (first_other key.now keys.now self.now.owned))) }
+    {
+        if !self.plan.unique() {
+            return Ok(());
+        }
+        let Some(other) = self.holders.first_other(key, keys) else {
+            return Ok(());
+        };
+        match find(&self.entries, other) {
+            Some(entry) => Err(duplicate(alloc, &entry.id, id)?),
+            None => unreachable!(),
+        }
+    }
+
+    // The keys of a document that may be taken in.
+    fn allowed(
+        &self,
+        alloc: Global,
+        id: &Value,
+        key: &Bytes,
+        doc: Held<'_>,
+    ) -> Result<Keys, IndexFault>
+        ensures keys { IfOk result (λ ks. ks ≡ key_texts self.now.plan (held_document doc.entry)) }
+        ensures allowed { OnOk result (refusal self.now.plan key.now (held_document doc.entry) self.now.owned ≡ None) }
+        ensures fault { IfErr result (λ e. IsIndexFault e id.now (refusal self.now.plan key.now (held_document doc.entry) self.now.owned)) }
+    {
+        let keys = match own_keys(alloc, &self.plan, id, doc) {
+            Ok(keys) => keys,
+            Err(e) => return Err(e),
+        };
+        match self.no_other(alloc, id, key, keys.as_slice()) {
+            Ok(_) => Ok(keys),
+            Err(e) => Err(e),
+        }
     }
 
     /// Answers as `add`, and takes nothing in.
@@ -189,9 +209,122 @@ impl Index {
         ensures fault { IfErr result (λ e. IsIndexFault e id.now (refusal self.now.plan (key_of id.now) (held_document doc.entry) self.now.owned)) }
     {
         let key = key_of(alloc, id)?;
-        match allowed(alloc, &self.plan, self.entries.as_slice(), id, &key, doc) {
+        match self.allowed(alloc, id, &key, doc) {
             Ok(_) => Ok(()),
             Err(e) => Err(e),
+        }
+    }
+
+    // What takes a document in.
+    fn swap_of(
+        &self,
+        alloc: Global,
+        id: &Value,
+        key: Bytes,
+        doc: Held<'_>,
+    ) -> Result<Swap, IndexFault>
+        requires key { key ≡ key_of id.now }
+        ensures key { IfOk result (λ s. s.key ≡ key) }
+        ensures unique { IfOk result (λ s. s.unique ≡ self.now.plan.unique) }
+        ensures keys { IfOk result (λ s. s.keys ≡ Some (key_texts self.now.plan (held_document doc.entry))) }
+        ensures allowed { OnOk result (refusal self.now.plan key (held_document doc.entry) self.now.owned ≡ None) }
+        ensures fault { IfErr result (λ e. IsIndexFault e id.now (refusal self.now.plan key (held_document doc.entry) self.now.owned)) }
+    {
+        let keys = match self.allowed(alloc, id, &key, doc) {
+            Ok(keys) => keys,
+            Err(e) => return Err(e),
+        };
+        let unique = self.plan.unique();
+        let holders = if unique {
+            holders_of(alloc, &key, keys.as_slice())?
+        } else {
+            Vec::new(alloc)
+        };
+        let entry = Entry {
+            key: key.copy(alloc)?,
+            id: id.copy(alloc)?,
+            keys,
+        };
+        Ok(Swap::of(key, unique, Some(entry), holders))
+    }
+
+    // Room for a document with so many keys.
+    fn reserve(&mut self, keys: usize) -> Result<(), AllocError>
+        ensures plan { self.new.plan ≡ self.old.plan }
+        ensures owned { self.new.owned ≡ self.old.owned }
+        ensures room { OnOk result (suc keys ≤ self.new.spare) }
+    {
+        self.entries.reserve(1)?;
+        self.holders.reserve(keys)
+    }
+
+    fn prepare_entry(
+        &mut self,
+        alloc: Global,
+        id: &Value,
+        key: Bytes,
+        doc: Held<'_>,
+    ) -> Result<Swap, IndexFault>
+        requires key { key ≡ key_of id.now }
+        ensures plan { self.new.plan ≡ self.old.plan }
+        ensures owned { self.new.owned ≡ self.old.owned }
+        ensures key { IfOk result (λ s. s.key ≡ key) }
+        ensures unique { IfOk result (λ s. s.unique ≡ self.old.plan.unique) }
+        ensures keys { IfOk result (λ s. s.keys ≡ Some (key_texts self.old.plan (held_document doc.entry))) }
+        ensures room { IfOk result (λ s. room_for s.keys ≤ self.new.spare) }
+        ensures allowed { OnOk result (refusal self.old.plan key (held_document doc.entry) self.old.owned ≡ None) }
+        ensures fault { IfErr result (λ e. IsIndexFault e id.now (refusal self.old.plan key (held_document doc.entry) self.old.owned)) }
+    {
+        let swap = match self.swap_of(alloc, id, key, doc) {
+            Ok(swap) => swap,
+            Err(e) => return Err(e),
+        };
+        self.reserve(swap.key_count())?;
+        Ok(swap)
+    }
+
+    /// What makes of the index what `add` makes of it, or `take_out` where there is no document, by
+    /// `swap`, which takes no memory. Nothing is refused without a document. The pairs stay as they are.
+    pub fn prepare(
+        &mut self,
+        alloc: Global,
+        id: &Value,
+        doc: Option<Held<'_>>,
+    ) -> Result<Swap, IndexFault>
+        ensures plan { self.new.plan ≡ self.old.plan }
+        ensures owned { self.new.owned ≡ self.old.owned }
+        ensures key { IfOk result (λ s. s.key ≡ key_of id.now) }
+        ensures unique { IfOk result (λ s. s.unique ≡ self.old.plan.unique) }
+        ensures keys { IfOk result (λ s. s.keys ≡ option_map (λ d. key_texts self.old.plan (held_document d)) doc.entry) }
+        ensures room { IfOk result (λ s. room_for s.keys ≤ self.new.spare) }
+        ensures free { IfOk result (λ s. exchange_refusal s self.new.owned ≡ None) }
+        ensures allowed { OnOk result (refusal_if self.old.plan (key_of id.now) (option_map held_document doc.entry) self.old.owned ≡ None) }
+        ensures fault { IfErr result (λ e. IsIndexFault e id.now (refusal_if self.old.plan (key_of id.now) (option_map held_document doc.entry) self.old.owned)) }
+    {
+        let key = key_of(alloc, id)?;
+        match doc {
+            None => Ok(Swap::of(key, self.plan.unique(), None, Vec::new(alloc))),
+            Some(doc) => self.prepare_entry(alloc, id, key, doc),
+        }
+    }
+
+    /// Makes the change that was made ready, where there is room for it and, in a unique index, no other document
+    /// has one of its keys. It takes no memory.
+    pub fn swap(&mut self, swap: Swap)
+        requires unique { swap.unique ≡ self.old.plan.unique }
+        requires room { room_for swap.keys ≤ self.old.spare }
+        requires free { exchange_refusal swap self.old.owned ≡ None }
+        ensures plan { self.new.plan ≡ self.old.plan }
+        ensures owned { self.new.owned ≡ exchanged swap self.old.owned }
+    {
+        let (key, entry, holders) = swap.into_parts();
+        let unique = self.plan.unique();
+        hand_over(unique, &self.entries, &mut self.holders, &key, holders);
+        match entry {
+            Some(entry) => put(&mut self.entries, entry),
+            None => {
+                let _ = remove(&mut self.entries, &key);
+            }
         }
     }
 
@@ -205,10 +338,9 @@ impl Index {
         ensures allowed { OnOk result (refusal self.old.plan (key_of id.now) (held_document doc.entry) self.old.owned ≡ None) }
         ensures fault { IfErr result (λ e. IsIndexFault e id.now (refusal self.old.plan (key_of id.now) (held_document doc.entry) self.old.owned)) }
     {
-        self.entries.reserve(1)?;
-        match entry_of(alloc, &self.plan, self.entries.as_slice(), id, doc) {
-            Ok(entry) => {
-                put(&mut self.entries, entry);
+        match self.prepare(alloc, id, Some(doc)) {
+            Ok(swap) => {
+                self.swap(swap);
                 Ok(())
             }
             Err(e) => Err(e),
@@ -223,68 +355,9 @@ impl Index {
         ensures err { OnErr result (self.new.owned ≡ self.old.owned) }
     {
         let key = key_of(alloc, id)?;
+        let unique = self.plan.unique();
+        let none = Vec::new(alloc);
+        hand_over(unique, &self.entries, &mut self.holders, &key, none);
         Ok(remove(&mut self.entries, &key))
-    }
-
-    fn prepare_entry(
-        &mut self,
-        alloc: Global,
-        id: &Value,
-        key: Bytes,
-        doc: Held<'_>,
-    ) -> Result<Swap, IndexFault>
-        requires key { key ≡ key_of id.now }
-        ensures plan { self.new.plan ≡ self.old.plan }
-        ensures owned { self.new.owned ≡ self.old.owned }
-        ensures key { IfOk result (λ s. s.key ≡ key) }
-        ensures keys { IfOk result (λ s. s.keys ≡ Some (key_texts self.old.plan (held_document doc.entry))) }
-        ensures room { IfOk result (λ s. room_for s.keys ≤ self.new.spare) }
-        ensures allowed { OnOk result (refusal self.old.plan (key_of id.now) (held_document doc.entry) self.old.owned ≡ None) }
-        ensures fault { IfErr result (λ e. IsIndexFault e id.now (refusal self.old.plan (key_of id.now) (held_document doc.entry) self.old.owned)) }
-    {
-        self.entries.reserve(1)?;
-        let entry = match entry_of(alloc, &self.plan, self.entries.as_slice(), id, doc) {
-            Ok(entry) => entry,
-            Err(e) => return Err(e),
-        };
-        Ok(Swap::of(key, Some(entry)))
-    }
-
-    /// What makes of the index what `add` makes of it, or `take_out` where there is no document, by
-    /// `swap`, which takes no memory. Nothing is refused without a document. The pairs stay as they are.
-    pub fn prepare(
-        &mut self,
-        alloc: Global,
-        id: &Value,
-        doc: Option<Held<'_>>,
-    ) -> Result<Swap, IndexFault>
-        ensures plan { self.new.plan ≡ self.old.plan }
-        ensures owned { self.new.owned ≡ self.old.owned }
-        ensures key { IfOk result (λ s. s.key ≡ key_of id.now) }
-        ensures keys { IfOk result (λ s. s.keys ≡ option_map (λ d. key_texts self.old.plan (held_document d)) doc.entry) }
-        ensures room { IfOk result (λ s. room_for s.keys ≤ self.new.spare) }
-        ensures allowed { OnOk result (refusal_if self.old.plan (key_of id.now) (option_map held_document doc.entry) self.old.owned ≡ None) }
-        ensures fault { IfErr result (λ e. IsIndexFault e id.now (refusal_if self.old.plan (key_of id.now) (option_map held_document doc.entry) self.old.owned)) }
-    {
-        let key = key_of(alloc, id)?;
-        match doc {
-            None => Ok(Swap::of(key, None)),
-            Some(doc) => self.prepare_entry(alloc, id, key, doc),
-        }
-    }
-
-    /// Makes the change that was made ready, where there is room for it. It takes no memory.
-    pub fn swap(&mut self, swap: Swap)
-        requires { room_for swap.keys ≤ self.old.spare }
-        ensures plan { self.new.plan ≡ self.old.plan }
-        ensures owned { self.new.owned ≡ exchanged swap self.old.owned }
-    {
-        let (key, entry) = swap.into_parts();
-        match entry {
-            Some(entry) => put(&mut self.entries, entry),
-            None => {
-                let _ = remove(&mut self.entries, &key);
-            }
-        }
     }
 }

@@ -6,6 +6,7 @@ mod counts;
 mod entries;
 mod entry;
 mod fault;
+mod holders;
 mod index;
 mod index_fault;
 mod laws;

@@ -1,36 +1,31 @@
-use Rattle.std.proofs.Common.{sym, ap, ◌∙◌, subst}
+use Rattle.std.proofs.Common.{rules, sym, ap, ◌∙◌, subst}
+use Rattle.std.specs.Prelude.{is_some}
+use Rattle.std.proofs.lemmas.Fn.{always_returns_same}
 use Rattle.state_model.specs.Keys.{key_cmp}
+use Rattle.state_model.proofs.Keys.{key_total, key_anti}
 use Rattle.coll_state.specs.Stock.{Rise}
+use Rattle.coll_state.proofs.Keyed.{rise_take}
 use Rattle.index_build.specs.Entries.{entry_key, owned_in}
-use Rattle.index_build.proofs.Owned.{placed_ok, placed_err, owned_removed, rise_removed, owned_there, owned_absent, owned_stays}
+use Rattle.index_build.proofs.Owned.{at_entry, entries_ordered, owned_taken, owned_there}
 use Rattle.index_build.proofs.entries.remove.Goals as goal
 
-pub returns-in-Ok-clause-rise : goal.returns-in-Ok-clause-rise
-returns-in-Ok-clause-rise c =
+pub returns-clause-rise : goal.returns-clause-rise
+returns-clause-rise c =
+    let k = c.args.key.now in
     let es = c.args.entries.now.items in
-    let f = placed_ok es _ c.args.key.now c.in-Ok.at c.as_slice.ensures.value c.requires.rise c.in-Ok.ensures.place in
-    subst (Rise key_cmp entry_key) (sym c.remove.ensures.items) (rise_removed es c.args.key.now c.remove.result c.in-Ok.at f c.requires.rise)
+    let taken = c.remove.ensures.items (at_entry k) (always_returns_same _ _ _ (λ a r f called. (search rules, search rules))) (entries_ordered es k c.requires.rise) in
+    subst (Rise key_cmp entry_key) (sym taken) (rise_take key_cmp key_total key_anti entry_key es k c.requires.rise)
 
-pub returns-in-Ok-clause-owned : goal.returns-in-Ok-clause-owned
-returns-in-Ok-clause-owned c =
+pub returns-clause-owned : goal.returns-clause-owned
+returns-clause-owned c =
+    let k = c.args.key.now in
     let es = c.args.entries.now.items in
-    let f = placed_ok es _ c.args.key.now c.in-Ok.at c.as_slice.ensures.value c.requires.rise c.in-Ok.ensures.place in
-    ap owned_in c.remove.ensures.items ∙ owned_removed es c.args.key.now c.remove.result c.in-Ok.at f c.requires.rise
+    let taken = c.remove.ensures.items (at_entry k) (always_returns_same _ _ _ (λ a r f called. (search rules, search rules))) (entries_ordered es k c.requires.rise) in
+    ap owned_in taken ∙ owned_taken es k c.requires.rise
 
-pub returns-in-Ok-clause-there : goal.returns-in-Ok-clause-there
-returns-in-Ok-clause-there c =
+pub returns-clause-there : goal.returns-clause-there
+returns-clause-there c =
+    let k = c.args.key.now in
     let es = c.args.entries.now.items in
-    let f = placed_ok es _ c.args.key.now c.in-Ok.at c.as_slice.ensures.value c.requires.rise c.in-Ok.ensures.place in
-    sym (owned_there es c.args.key.now c.remove.result c.in-Ok.at f)
-
-pub returns-in-Err-clause-owned : goal.returns-in-Err-clause-owned
-returns-in-Err-clause-owned c =
-    let es = c.args.entries.now.items in
-    let g = placed_err es _ c.args.key.now c.in-Err.field-0 c.as_slice.ensures.value c.requires.rise c.in-Err.ensures.place in
-    sym (owned_stays es c.args.key.now c.in-Err.field-0 g)
-
-pub returns-in-Err-clause-there : goal.returns-in-Err-clause-there
-returns-in-Err-clause-there c =
-    let es = c.args.entries.now.items in
-    let g = placed_err es _ c.args.key.now c.in-Err.field-0 c.as_slice.ensures.value c.requires.rise c.in-Err.ensures.place in
-    sym (owned_absent es c.args.key.now c.in-Err.field-0 g)
+    let value = c.remove.ensures.value (at_entry k) (always_returns_same _ _ _ (λ a r f called. (search rules, search rules))) (entries_ordered es k c.requires.rise) in
+    c.is_some.ensures ∙ (ap is_some value ∙ owned_there es k)

@@ -6,7 +6,7 @@ use Rattle.index_build.proofs.index.total.Given as goal
 
 abbrev pub invariant-loop-entry : goal.invariant-loop-entry
 invariant-loop-entry l =
-    (min (l.count + texts_count (owned_of l.left)) 18446744073709551615 ≡ min (texts_count (owned_of l.entries)) 18446744073709551615)
+    (min (l.count + texts_count (owned_of l.left)) 18446744073709551615 ≡ min (texts_count (owned_of l.entries.items)) 18446744073709551615)
     × (l.count ≤ 18446744073709551615)
 
 abbrev pub decreases-loop-entry : goal.decreases-loop-entry

@@ -1,13 +1,10 @@
-use Rattle.std.proofs.Common.{List, sym, ap, ◌∙◌}
+use Rattle.std.proofs.Common.{sym, ap, ◌∙◌}
 use Rattle.std.specs.Prelude.{min}
-use Rattle.index_build.specs.declared.entry.Entry.{Entry}
-use Rattle.index_build.specs.Entries.{owned_of}
 use Rattle.index_build.specs.Owned.{Holding, pairs_in, texts_count}
 use Rattle.index_build.proofs.Owned.{entries_owned}
 use Rattle.index_build.proofs.index.Index.len.Goals as goal
 
 pub returns : goal.returns
 returns c =
-    c.total.ensures ∙ (ap (λ (es : List Entry). min (texts_count (owned_of es)) 18446744073709551615) c.as_slice.ensures.value
-    ∙ (ap (λ z. min (texts_count z) 18446744073709551615) (sym (entries_owned c.self.inside.entries.items c.self.invariant))
-    ∙ ap (λ (h : Holding). min (pairs_in h.owned) 18446744073709551615) c.self.view_is))
+    c.total.ensures ∙ (ap (λ z. min (texts_count z) 18446744073709551615) (sym (entries_owned c.self.inside.entries.items c.self.invariant.rise))
+    ∙ ap (λ (h : Holding). min (pairs_in h.owned) 18446744073709551615) c.self.view_is)
