@@ -4,6 +4,7 @@ pub mod Records
 pub mod Parts
 pub mod Named
 pub mod Sound
+pub mod Shortness
 pub mod Rooms
 pub mod Links
 pub mod ByKey

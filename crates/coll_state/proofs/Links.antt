@@ -16,7 +16,7 @@ use Rattle.state_model.specs.Replay.{put_document, remove_document, on_there, on
 use Rattle.state_model.proofs.Keys.{key_total, ns_total, ns_anti}
 use Rattle.state_model.proofs.Maps.{key_map_same, ns_map_same, key_at_insert, ns_at_insert, key_at_remove, ns_at_remove, key_insert_else, key_remove_else}
 use Rattle.coll_state.specs.Rows.{Document, Row, Table, Rows, row_of, Rising, AreSound, documents_of, collection_of, collections_of, state_of}
-use Rattle.coll_state.specs.Changes.{Tables, put_table, drop_table, put_row, drop_row, fresh_table, put_under, remove, create, drop_ns, drop_db, rename, add_index, drop_index, put_index, take_index, with_incarnation, on_found, renamed_in, or_fresh as or_fresh_table, on_there as on_there_table}
+use Rattle.coll_state.specs.Changes.{Tables, put_table, drop_table, put_row, drop_row, fresh_table, put_under, remove, create, drop_ns, drop_db, rename, add_index, drop_index, put_index, take_index, with_incarnation, describe, described, under_names, on_found, renamed_in, or_fresh as or_fresh_table, on_there as on_there_table}
 use Rattle.coll_state.specs.Definitions.{definition_name}
 use Rattle.coll_state.proofs.RowLists.{same_id, row_put_doc, row_put_else, row_drop_else, row_drop_here}
 
@@ -122,6 +122,12 @@ pub put_link : (n : NsName) (k : Key) (d : Document) (s : Rows) → state_of (pu
 put_link n k d s =
     insert_link s.tables (s.count + 1) s.count n (put_table k d (or_fresh_table s.count (map.get s.tables n)))
     ∙ ap (map.insert (state_of s) n) (put_collection k d (or_fresh_table s.count (map.get s.tables n)) ∙ ap (put_document k (Object d)) (or_fresh_link s.count (map.get s.tables n) ∙ ap or_fresh (sym (get_collection s n))))
+
+pub describe_link : (n : NsName) (o : Tree) (ds : List Tree) (s : Rows) → state_of (describe n o ds s) ≡ map.insert (state_of s) n (record { options = o; indexes = under_names ds; documents = (or_fresh (map.get (state_of s) n)).documents })
+describe_link n o ds s =
+    let documents = ap (λ (c : Collection). c.documents) (or_fresh_link s.count (map.get s.tables n) ∙ ap or_fresh (sym (get_collection s n))) in
+    insert_link s.tables (s.count + 1) s.count n (described o (under_names ds) (or_fresh_table s.count (map.get s.tables n)))
+    ∙ ap (λ (m : map.FinMap key_cmp Value). map.insert (state_of s) n (record { options = o; indexes = under_names ds; documents = m })) documents
 
 pub remove_link : (n : NsName) (k : Key) (s : Rows) → AreSound s → state_of (remove n k s) ≡ replay (Remove n k) (state_of s)
 remove_link n k s sound = on_link s n (drop_table k) (remove_document k) (λ t e. drop_collection k t (sound n t e).0.0)

@@ -4,12 +4,12 @@ use Rattle.std.specs.Prelude.{Result, Ok, Err, OnOk, OnErr}
 use Rattle.std.specs.FinMap as map
 use Rattle.bson_value.specs.declared.namespace.NsName.{NsName}
 use Rattle.json_tree.specs.declared.tree.Tree.{Tree}
-use Rattle.state_model.specs.Keys.{Key, same_ns}
+use Rattle.state_model.specs.Keys.{Key, key_cmp, same_ns}
 use Rattle.state_model.specs.States.{no_options}
 use Rattle.state_model.proofs.Keys.{ns_anti}
 use Rattle.state_model.proofs.Maps.{ns_at_insert, ns_at_remove}
 use Rattle.coll_state.specs.Rows.{Document, Row, Table, row_of, IsSound}
-use Rattle.coll_state.specs.Changes.{Tables, put_table, drop_table, next_after, fresh_table, or_fresh, with_incarnation, put_index, take_index, on_found, on_there, renamed_in}
+use Rattle.coll_state.specs.Changes.{Tables, put_table, drop_table, next_after, fresh_table, or_fresh, with_incarnation, described, put_index, take_index, on_found, on_there, renamed_in}
 use Rattle.coll_state.proofs.RowLists.{rising_put, rising_drop, last_put, last_drop}
 
 -- what holds of a collection while so many calls were counted
@@ -101,3 +101,10 @@ kept_renamed count ts from to h = by (map.get ts from) refl
     by (Some t) e =
         let w = h from t e in
         kept_insert (count + 1) (map.remove ts from) to (with_incarnation count t) (kept_remove (count + 1) ts from (later count ts h)) (w.0, (let a = w.1 in omega arith), omega arith)
+
+pub kept_described : (count : ℕ) (ts : Tables) (n : NsName) (o : Tree) (defs : map.FinMap key_cmp Tree) → AreKeptWell count ts → AreKeptWell (count + 1) (map.insert ts n (described o defs (or_fresh count (map.get ts n))))
+kept_described count ts n o defs h = kept_insert (count + 1) ts n _ (later count ts h) (by (map.get ts n) refl)
+  where
+    by : (x : Option Table) → map.get ts n ≡ x → IsKeptWell (count + 1) (described o defs (or_fresh count x))
+    by None e = fresh_keeps count no_options
+    by (Some t) e = let w = h n t e in (w.0, (let a = w.1 in omega arith), (let a = w.2 in omega arith))

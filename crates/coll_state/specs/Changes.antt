@@ -1,10 +1,10 @@
 -- What each call makes of the rows.
-use Rattle.std.specs.Prelude.{ℕ, suc, ◌+◌, List, [], ◌∷◌, not, Bool, Option, Some, None, false, if◌then◌else◌}
+use Rattle.std.specs.Prelude.{ℕ, suc, ◌+◌, List, [], ◌∷◌, fold, not, Bool, Option, Some, None, false, if◌then◌else◌}
 use Rattle.std.specs.FinMap as map
 use Rattle.bson_value.specs.declared.namespace.NsName.{NsName}
 use Rattle.bson_value.specs.NamespaceOrder.{namespace_cmp}
 use Rattle.json_tree.specs.declared.tree.Tree.{Tree}
-use Rattle.state_model.specs.Keys.{Key, same_key}
+use Rattle.state_model.specs.Keys.{Key, key_cmp, same_key}
 use Rattle.state_model.specs.States.{no_options}
 use Rattle.coll_state.specs.Definitions.{definition_name}
 use Rattle.coll_state.specs.Rows.{Document, Row, Table, Rows, row_of, key_in, id_of, scan}
@@ -101,6 +101,18 @@ add_index n d s = with_tables (on_there (put_index (definition_name d) d) n s.ta
 
 abbrev pub drop_index : NsName → Key → Rows → Rows
 drop_index n i s = with_tables (on_there (take_index i) n s.tables) s
+
+-- definitions under their names: of two of one name the later
+abbrev pub under_names : List Tree → map.FinMap key_cmp Tree
+under_names ds = fold (λ m d. map.insert m (definition_name d) d) map.empty ds
+
+-- other options and definitions; the documents stay
+abbrev pub described : Tree → map.FinMap key_cmp Tree → Table → Table
+described o defs t = record t { options = o; indexes = defs }
+
+-- the options and the definitions of a collection; a missing one is made
+abbrev pub describe : NsName → Tree → List Tree → Rows → Rows
+describe n o ds s = counted (map.insert s.tables n (described o (under_names ds) (or_fresh s.count (map.get s.tables n)))) s
 
 -- what stands in a state
 abbrev pub document_of : Option Row → Option Document

@@ -5,10 +5,11 @@ use Rattle.bson_value.specs.declared.namespace.NsName.{NsName}
 use Rattle.bson_value.specs.declared.value.Value.{Object}
 use Rattle.json_tree.specs.declared.tree.Tree.{Tree}
 use Rattle.state_model.specs.Keys.{Key}
+use Rattle.state_model.specs.States.{or_fresh}
 use Rattle.state_model.specs.Moves.{Put, Remove, Create, DropColl, DropDb, AddIndex, DropIndex}
 use Rattle.state_model.specs.Replay.{replay}
 use Rattle.coll_state.specs.Rows.{Document, Table, Rows, AreSound, collection_of, state_of}
-use Rattle.coll_state.specs.Changes.{put_under, remove, create, drop_ns, drop_db, rename, add_index, drop_index}
+use Rattle.coll_state.specs.Changes.{put_under, remove, create, drop_ns, drop_db, rename, add_index, drop_index, describe, under_names}
 use Rattle.coll_state.specs.Definitions.{definition_name}
 
 abbrev pub PutIsMove : Type 0
@@ -31,6 +32,10 @@ AddIndexIsMove = (n : NsName) (d : Tree) (s : Rows) → state_of (add_index n d 
 
 abbrev pub DropIndexIsMove : Type 0
 DropIndexIsMove = (n : NsName) (i : Key) (s : Rows) → state_of (drop_index n i s) ≡ replay (DropIndex n i) (state_of s)
+
+-- options and definitions take the place of those that were there
+abbrev pub DescribedAnew : Type 0
+DescribedAnew = (n : NsName) (o : Tree) (ds : List Tree) (s : Rows) → state_of (describe n o ds s) ≡ map.insert (state_of s) n (record { options = o; indexes = under_names ds; documents = (or_fresh (map.get (state_of s) n)).documents })
 
 -- a renamed collection is moved whole
 abbrev pub RenameMoves : Type 0

@@ -5,7 +5,7 @@ ghost use Rattle.std.specs.FinMap as map;
 ghost use Rattle.bson_encode.specs.Key.{key_of};
 ghost use Rattle.state_model.specs.Keys.{key_cmp};
 ghost use Rattle.coll_state.specs.Rows.{row_of, key_in, id_of, scan, collection_of, IsSound};
-ghost use Rattle.coll_state.specs.Changes.{fresh_table, put_table, drop_table, with_incarnation, put_index, take_index};
+ghost use Rattle.coll_state.specs.Changes.{fresh_table, put_table, drop_table, with_incarnation, described, put_index, take_index};
 ghost use Rattle.coll_state.specs.Definitions.{definition_name};
 ghost use Rattle.sorted_list.specs.Order.{IsFound, IsGap};
 ghost use Rattle.coll_state.specs.Stock.{row_in, rows_in, Rise, beside};
@@ -184,6 +184,19 @@ impl Collection {
         ensures { self.new.table ≡ with_incarnation incarnation self.old.table }
     {
         self.incarnation = incarnation;
+    }
+
+    /// The options and the definitions of another collection.
+    pub(crate) fn describe(&mut self, other: Collection)
+        ensures { self.new.table ≡ described other.table.options other.table.indexes self.old.table }
+    {
+        let Collection {
+            options,
+            indexes,
+            ..
+        } = other;
+        self.options = options;
+        self.indexes = indexes;
     }
 
     /// Room for so many more documents.

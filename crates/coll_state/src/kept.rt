@@ -1,15 +1,14 @@
 //! Documents as they are kept.
-ghost use Rattle.std.specs.Prelude.{◌≡◌, IfOk, IsTrue};
-ghost use Rattle.bson_value.specs.declared.value.Value.{out-Value};
-ghost use Rattle.bson_view.specs.HeldWalk.{fields_in};
-ghost use Rattle.bson_value.specs.Spelling.{document_text, spelled};
+ghost use Rattle.std.specs.Prelude.{◌≡◌, ◌↔◌, IfOk, IsTrue, true};
+ghost use Rattle.bson_value.specs.Spelling.{document_text};
 ghost use Rattle.bson_view.specs.Kept.{kept_bytes, kept_document};
 ghost use Rattle.coll_state.specs.Kept.{shown, shown_in, is_short};
 
 use bson_check::{DecodeFault, MAX_DOCUMENT_BYTES, MAX_LEVELS, faultless_if_spelled, spelled_once};
 use bson_core::decode;
-use bson_encode::{cmp_key, encode};
-use bson_value::{Doc, Value, type_byte};
+use bson_encode::encode;
+use bson_spelling::is_spelling;
+use bson_value::Doc;
 use bson_view::{DocumentBytes, Held, one_document};
 use std::alloc::{AllocError, Global};
 use std::marker::Model;
@@ -100,53 +99,29 @@ impl Kept {
     }
 }
 
-// Whether the bytes are the spelling of a document, without memory.
-fn is_spelling(value: &Value, bytes: &DocumentBytes) -> bool
-    ensures { IsTrue result → spelled value.now ≡ kept_bytes bytes.now }
+// Whether the bytes are the spelling of a document that is kept as its spelling.
+fn is_short_spelling(bytes: &DocumentBytes) -> bool
+    ensures { IsTrue result ↔ (kept_bytes bytes.now ≡ document_text (kept_document bytes.now)) × (is_short (kept_document bytes.now) ≡ true) }
 {
-    cmp_key(value, type_byte::DOCUMENT, bytes.as_slice()).is_eq()
-}
-
-// The document that a value is.
-fn document_in(value: Value) -> Option<Doc>
-    ensures { result ≡ fields_in (out-Value value) }
-{
-    match value {
-        Value::Object(doc) => Some(doc),
-        _ => None,
+    let view = bytes.view();
+    if view.bytes().len() > MAX_KEPT_BYTES {
+        return false;
     }
-}
-
-// The document, and whether the bytes are its spelling.
-fn compared(doc: Doc, bytes: &DocumentBytes) -> (Doc, bool)
-    ensures document { result.0 ≡ doc }
-    ensures spelling { IsTrue result.1 → document_text doc ≡ kept_bytes bytes.now }
-{
-    let value = Value::Object(doc);
-    let same = is_spelling(&value, bytes);
-    match document_in(value) {
-        Some(doc) => (doc, same),
-        None => unreachable!(),
-    }
+    is_spelling(&view, MAX_KEPT_LEVELS)
 }
 
 impl Kept {
-    /// The document, which these bytes spell. They are kept as they lie where they are its spelling.
-    pub(crate) fn of_bytes(
-        alloc: Global,
-        doc: Doc,
-        bytes: DocumentBytes,
-    ) -> Result<Kept, AllocError>
-        requires { kept_document bytes ≡ doc }
-        ensures { IfOk result (λ k. k ≡ doc) }
+    /// The document that these bytes spell. They are kept as they lie where they are its spelling.
+    pub(crate) fn of_bytes(alloc: Global, bytes: DocumentBytes) -> Result<Kept, AllocError>
+        ensures { IfOk result (λ k. k ≡ kept_document bytes) }
     {
-        let short = is_short(&doc);
-        let (doc, same) = compared(doc, &bytes);
-        if short && same {
+        let kept = is_short_spelling(&bytes);
+        if kept {
             return Ok(Kept {
                 form: Form::Spelled(bytes),
             });
         }
+        let doc = decoded(alloc, &bytes)?;
         Kept::of(alloc, doc)
     }
 }

@@ -4,7 +4,7 @@ ghost use Rattle.std.specs.Option.{option_copied};
 ghost use Rattle.std.specs.FinMap as map;
 ghost use Rattle.bson_encode.specs.Key.{key_of};
 ghost use Rattle.coll_state.specs.Rows.{id_of, key_in, AreSound};
-ghost use Rattle.coll_state.specs.Changes.{no_rows, put, remove, create, drop_ns, drop_db, rename, add_index, drop_index, document_at, has_index, rows_after};
+ghost use Rattle.coll_state.specs.Changes.{no_rows, put, remove, create, describe, drop_ns, drop_db, rename, add_index, drop_index, document_at, has_index, rows_after};
 ghost use Rattle.coll_state.specs.Definitions.{definition_name};
 ghost use Rattle.coll_state.specs.Documents.{documents_by_key};
 ghost use Rattle.coll_state.specs.Walks.{names_left, looks, looks_left};
@@ -15,10 +15,11 @@ ghost use Rattle.coll_state.specs.Kept.{shown, shown_in};
 use crate::change::{self, Change};
 use crate::collection::Collection;
 use crate::documents::Documents;
-use crate::kept::{Kept, decoded};
+use crate::kept::Kept;
 use crate::tables::{self, Tables};
 use crate::walks::{After, Namespaces};
 use bson_encode::put_key;
+use bson_spelling::put_id_key;
 use bson_value::{Bytes, Doc, List, NsName, Value};
 use bson_view::{DocumentBytes, Held};
 use containers::List as JList;
@@ -72,6 +73,21 @@ pub(crate) fn key_of(alloc: Global, id: &Value) -> Result<Bytes, AllocError>
     Ok(Bytes::from_vec(key))
 }
 
+// The key of the `_id` of the document that the bytes spell.
+fn key_in_bytes(alloc: Global, bytes: &DocumentBytes) -> Result<Bytes, AllocError>
+    requires { is_some (id_of (kept_document bytes.now)) ≡ true }
+    ensures { IfOk result (λ key. key ≡ key_in (id_of (kept_document bytes.now))) }
+{
+    match bytes.view().field("_id") {
+        Some(id) => {
+            let mut key = Vec::new(alloc);
+            put_id_key(alloc, &mut key, &id)?;
+            Ok(Bytes::from_vec(key))
+        }
+        None => unreachable!(),
+    }
+}
+
 impl State {
     /// No collections.
     pub fn new(alloc: Global) -> State
@@ -90,7 +106,7 @@ impl State {
         let _ = &self.tables;
     }
 
-    /// How many calls of `put`, `create` and `rename`, and how many documents put by `change`, there were.
+    /// How many calls of `put`, `create`, `describe` and `rename`, and how many documents put by `change`, there were.
     /// Below `COUNT_LIMIT` each of them is allowed.
     pub fn count(&self) -> u128
         ensures { result ≡ self.now.count }
@@ -219,7 +235,8 @@ impl State {
     }
 
     /// The same of the document that these bytes spell, which are kept as they lie where they are its
-    /// spelling. It is decoded for that.
+    /// spelling and it is short. No document is built for that, but for one that is kept otherwise, and the
+    /// value of an `_id` that holds others.
     pub fn put_bytes(
         &mut self,
         alloc: Global,
@@ -231,9 +248,8 @@ impl State {
         ensures ok { OnOk result (self.new ≡ put ns.now (kept_document bytes) self.old) }
         ensures err { OnErr result (self.new ≡ self.old) }
     {
-        let doc = decoded(alloc, &bytes)?;
-        let key = key_in(alloc, &doc)?;
-        let document = Kept::of_bytes(alloc, doc, bytes)?;
+        let key = key_in_bytes(alloc, &bytes)?;
+        let document = Kept::of_bytes(alloc, bytes)?;
         self.put_kept(alloc, ns, key, document)
     }
 
@@ -283,6 +299,32 @@ impl State {
     {
         let fresh = Collection::new(alloc, options, self.count);
         tables::set(&mut self.tables, alloc, ns, fresh)?;
+        self.count += 1;
+        Ok(())
+    }
+
+    /// The options and the definitions of the collection, in the place of those that it has: of two
+    /// definitions of one name the later. Its documents stay. A missing collection is made.
+    pub fn describe(
+        &mut self,
+        alloc: Global,
+        ns: &NsName,
+        options: Tree,
+        definitions: JList<Tree>,
+    ) -> Result<(), AllocError>
+        requires { self.old.count < 2 ^ 127 }
+        ensures ok { OnOk result (self.new ≡ describe ns.now options definitions self.old) }
+        ensures err { OnErr result (self.new ≡ self.old) }
+    {
+        let incarnation = self.count;
+        tables::describe(
+            &mut self.tables,
+            alloc,
+            ns,
+            incarnation,
+            options,
+            definitions,
+        )?;
         self.count += 1;
         Ok(())
     }

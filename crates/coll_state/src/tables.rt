@@ -5,13 +5,14 @@ ghost use Rattle.std.specs.Option.{option_copied};
 ghost use Rattle.std.specs.FinMap as map;
 ghost use Rattle.bson_encode.specs.Key.{key_of};
 ghost use Rattle.coll_state.specs.Rows.{row_of, key_in, id_of, Table};
-ghost use Rattle.coll_state.specs.Changes.{put_table, drop_table, fresh_table, or_fresh, put_index, take_index, document_at, has_index, on_there, renamed_in};
+ghost use Rattle.coll_state.specs.Changes.{put_table, drop_table, fresh_table, described, under_names, or_fresh, put_index, take_index, document_at, has_index, on_there, renamed_in};
 ghost use Rattle.coll_state.specs.Definitions.{definition_name};
 ghost use Rattle.coll_state.specs.Tables.{tables_in, stock_at};
 
 use crate::collection::Collection;
 use crate::kept::Kept;
 use bson_value::{Bytes, NsName, Value};
+use containers::List as JList;
 use json_tree::{Fields, Tree};
 use std::alloc::{AllocError, Global};
 use std::collections::BTreeMap;
@@ -72,6 +73,44 @@ pub(crate) fn put(
             let made = made_with(alloc, incarnation, key, document)?;
             set(tables, alloc, ns, made)
         }
+    }
+}
+
+// A collection without documents.
+fn made_of(
+    alloc: Global,
+    incarnation: u128,
+    options: Tree,
+    definitions: JList<Tree>,
+) -> Result<Collection, AllocError>
+    ensures { IfOk result (λ c. c.table ≡ described options (under_names definitions) (fresh_table incarnation options)) }
+{
+    let mut collection = Collection::new(alloc, options, incarnation);
+    for definition in definitions.into_vec() {
+        collection.add_index(definition)?;
+    }
+    Ok(collection)
+}
+
+/// The options and the definitions of a collection, which is made where it is missing.
+pub(crate) fn describe(
+    tables: &mut Tables,
+    alloc: Global,
+    ns: &NsName,
+    incarnation: u128,
+    options: Tree,
+    definitions: JList<Tree>,
+) -> Result<(), AllocError>
+    ensures ok { OnOk result (tables_in tables.new ≡ map.insert (tables_in tables.old) ns.now (described options (under_names definitions) (or_fresh incarnation (map.get (tables_in tables.old) ns.now)))) }
+    ensures err { OnErr result (tables_in tables.new ≡ tables_in tables.old) }
+{
+    let made = made_of(alloc, incarnation, options, definitions)?;
+    match tables.get_mut(ns) {
+        Some(collection) => {
+            collection.describe(made);
+            Ok(())
+        }
+        None => set(tables, alloc, ns, made),
     }
 }
 

@@ -1,4 +1,4 @@
-use Rattle.coll_state.proofs.Links.{put_link, remove_link, create_link, drop_link, drop_db_link, add_index_link, drop_index_link, rename_link}
+use Rattle.coll_state.proofs.Links.{put_link, remove_link, create_link, drop_link, drop_db_link, add_index_link, drop_index_link, rename_link, describe_link}
 use Rattle.coll_state.proofs.laws.changes_are_moves.Goals as goal
 
 pub returns : goal.returns
@@ -11,4 +11,5 @@ returns c = record {
   add_index = add_index_link;
   drop_index = drop_index_link;
   rename = rename_link;
+  describe = describe_link;
 }
