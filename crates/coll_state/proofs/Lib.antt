@@ -8,3 +8,4 @@ pub mod Shortness
 pub mod Rooms
 pub mod Links
 pub mod ByKey
+pub mod FirstPut

@@ -99,3 +99,18 @@ take_row low (r ∷ rs) k n up e = elim (cases_Bool (same_key k (row_in r).key))
 pub looked : (o : Option (Bor Record)) → option_map (λ (r : Bor Record). row_in r.now) o ≡ option_map row_in (option_copied o)
 looked None = refl
 looked (Some r) = refl
+
+-- a row stands under its key
+row_key : (rs : List Row) (k : Key) (r : Row) → row_of rs k ≡ Some r → r.key ≡ k
+row_key [] k r e = cc
+row_key (x ∷ rs) k r e =
+    elim (cases_Bool (same_key k x.key)) [
+      | inl s ↦ (let is : x ≡ r = cc_some x r (sym (row_here x rs k s) ∙ e) in ap (λ (z : Row). z.key) (sym is) ∙ sym (key_is k x.key s))
+      | inr s ↦ row_key rs k r (sym (row_later x rs k s) ∙ e)
+    ]
+  where
+    cc_some : (a b : Row) → Some a ≡ Some b → a ≡ b
+    cc_some a b h = cc
+
+pub keyed : (o : Option (Bor Record)) (r : Bor Record) (rs : List Row) (k : Key) → option_map (λ (z : Bor Record). row_in z.now) o ≡ row_of rs k → o ≡ Some r → key_in (id_of r.now.document) ≡ k
+keyed o r rs k e is = row_key rs k (row_in r.now) (sym e ∙ ap (option_map (λ (z : Bor Record). row_in z.now)) is)

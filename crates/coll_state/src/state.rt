@@ -1,8 +1,9 @@
 //! The collections of a server.
-ghost use Rattle.std.specs.Prelude.{length, ◌≡◌, ◌+◌, ◌<◌, ◌^◌, OnOk, OnErr, IfOk, is_some, option_map, true, false, None, ◌≢◌, map as each};
+ghost use Rattle.std.specs.Prelude.{length, ◌≡◌, ◌+◌, ◌<◌, ◌^◌, OnOk, OnErr, IfOk, IfSome, is_some, option_map, true, false, None, ◌≢◌, map as each};
 ghost use Rattle.std.specs.Option.{option_copied};
 ghost use Rattle.std.specs.FinMap as map;
 ghost use Rattle.bson_encode.specs.Key.{key_of};
+ghost use Rattle.state_model.specs.States.{no_options};
 ghost use Rattle.coll_state.specs.Rows.{id_of, key_in, AreSound};
 ghost use Rattle.coll_state.specs.Changes.{no_rows, put, remove, create, describe, drop_ns, drop_db, rename, add_index, drop_index, document_at, has_index, rows_after};
 ghost use Rattle.coll_state.specs.Definitions.{definition_name};
@@ -165,8 +166,10 @@ impl State {
     }
 
     /// A copy of the document of an `_id`.
+    #[tactic(auto, using(crate::proofs::Records::keyed))]
     pub fn copy_of(&self, alloc: Global, ns: &NsName, id: &Value) -> Result<Option<Doc>, AllocError>
-        ensures { IfOk result (λ doc. doc ≡ document_at ns.now (key_of id.now) self.now.tables) }
+        ensures doc { IfOk result (λ doc. doc ≡ document_at ns.now (key_of id.now) self.now.tables) }
+        ensures id { IfOk result (λ doc. IfSome doc (λ d. key_in (id_of d) ≡ key_of id.now)) }
     {
         let Some(collection) = tables::get(&self.tables, ns) else {
             return Ok(None);
@@ -232,6 +235,38 @@ impl State {
         let key = key_in(alloc, &doc)?;
         let document = Kept::of(alloc, doc)?;
         self.put_kept(alloc, ns, key, document)
+    }
+
+    fn put_first_kept(
+        &mut self,
+        alloc: Global,
+        ns: &NsName,
+        key: Bytes,
+        document: Kept,
+    ) -> Result<(), AllocError>
+        requires key { key ≡ key_in (id_of document) }
+        requires missing { map.contains_key self.old.tables ns.now ≡ false }
+        requires count { self.old.count + 1 < 2 ^ 127 }
+        ensures ok { OnOk result (self.new ≡ put ns.now document (create ns.now no_options self.old)) }
+        ensures err { OnErr result (self.new ≡ self.old) }
+    {
+        tables::put(&mut self.tables, alloc, ns, self.count, key, document)?;
+        self.count += 2;
+        Ok(())
+    }
+
+    /// Makes a collection that is missing, without options, and puts its first document in: all of it or,
+    /// without memory, nothing. It counts as `create` and `put`.
+    pub fn put_first(&mut self, alloc: Global, ns: &NsName, doc: Doc) -> Result<(), AllocError>
+        requires id { is_some (id_of doc) ≡ true }
+        requires missing { map.contains_key self.old.tables ns.now ≡ false }
+        requires count { self.old.count + 1 < 2 ^ 127 }
+        ensures ok { OnOk result (self.new ≡ put ns.now doc (create ns.now no_options self.old)) }
+        ensures err { OnErr result (self.new ≡ self.old) }
+    {
+        let key = key_in(alloc, &doc)?;
+        let document = Kept::of(alloc, doc)?;
+        self.put_first_kept(alloc, ns, key, document)
     }
 
     /// The same of the document that these bytes spell, which are kept as they lie where they are its
