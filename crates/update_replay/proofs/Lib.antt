@@ -1,2 +1,6 @@
 pub mod Named
+pub mod Kept
+pub mod Spared
+pub mod Cuts
+pub mod Lengths
 pub mod Replayed

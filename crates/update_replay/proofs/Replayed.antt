@@ -24,9 +24,10 @@ use Rattle.touch_laws.proofs.Agreement.{record_is_alike}
 use Rattle.update_model.specs.Touched.{whole, whole_at}
 use Rattle.update_model.proofs.Recording.{update_is_recorded}
 use Rattle.update_model.proofs.NoneLeftAtOnce.{none_is_left}
-use Rattle.update_replay.specs.Forms.{as_name, as_names, named, set_or_length, first_form, HaveNoLength}
+use Rattle.update_replay.specs.Forms.{as_name, as_names, named, set_or_length, first_form}
 use Rattle.update_replay.specs.Laws.{first_forms, FirstFormRecords, FirstFormReplays, SecondFormReplays}
 use Rattle.update_replay.proofs.Named.{names_recorded}
+use Rattle.update_replay.proofs.Lengths.{second_records}
 
 -- ---- the first form of a touch is the touch with names
 
@@ -153,14 +154,8 @@ first_form_replays d doc u sound e =
 
 -- ---- the second form
 
-same_whole : (z : Value) (ts : List Touch) → HaveNoLength ts → map (whole z) ts ≡ map touch_of ts
-same_whole z [] h = refl
-same_whole z (Sets place a fresh ∷ ts) h = ap (λ (ss : List Played). touch_at place (Put a) ∷ ss) (same_whole z ts h)
-same_whole z (Unsets place ∷ ts) h = ap (λ (ss : List Played). touch_at place Delete ∷ ss) (same_whole z ts h)
-same_whole z (Resizes place n ∷ ts) h = absurd h
-
 pub second_form_replays : SecondFormReplays
-second_form_replays d doc u sound e none =
+second_form_replays d doc u sound e =
     record_is_alike V2 (map touch_of u.touches) (Object doc) (Object u.doc)
     (none_is_left d doc u sound e)
-    (subst (λ (ss : List Played). Records V2 ss (Object doc) (Object u.doc)) (same_whole (Object u.doc) u.touches none) (update_is_recorded _ doc u e))
+    (second_records d doc u sound e)

@@ -1,5 +1,5 @@
 -- Touches in the first form: each index is the name of its digits, no field is new, and a Set of the whole array stands in place of its length.
-use Rattle.std.specs.Prelude.{⊤, ℕ, List, [], ◌∷◌, map, false, Option, Some, None}
+use Rattle.std.specs.Prelude.{ℕ, List, map, false, Option, Some, None}
 use Rattle.bson_value.specs.declared.value.Value.{Value}
 use Rattle.bson_value.specs.Digits.{digits}
 use Rattle.doc_path.specs.declared.parts.Part.{Part}
@@ -31,9 +31,3 @@ abbrev pub first_form : Value → Touch → Touch
 first_form z (Sets place a fresh) = Sets (as_names place) a false
 first_form z (Unsets place) = Unsets (as_names place)
 first_form z (Resizes place n) = set_or_length (as_names place) n (value_in place z)
-
--- no touch is of a length
-abbrev pub HaveNoLength : List Touch → Type 0
-HaveNoLength [] = ⊤
-HaveNoLength (Resizes place n ∷ ts) = ⊥
-HaveNoLength (t ∷ ts) = HaveNoLength ts

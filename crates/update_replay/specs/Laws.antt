@@ -12,7 +12,7 @@ use Rattle.update_model.specs.declared.updated.Updated.{Updated}
 use Rattle.update_model.specs.Arguments.{Fields}
 use Rattle.update_model.specs.Reading.{operators, ops_fault}
 use Rattle.update_model.specs.Updating.{updated}
-use Rattle.update_replay.specs.Forms.{named, first_form, HaveNoLength}
+use Rattle.update_replay.specs.Forms.{named, first_form}
 
 abbrev pub NamesRecord : Type 0
 NamesRecord = (ts : List Played) (old new : Value) → Records V2 ts old new → Records V1 (map named ts) old new
@@ -27,5 +27,8 @@ FirstFormRecords = (ops : List Operator) (doc : Fields) (u : Updated) → update
 abbrev pub FirstFormReplays : Type 0
 FirstFormReplays = (d doc : Fields) (u : Updated) → ops_fault d ≡ None → updated (operators d) doc ≡ Ok u → played_all V1 (map touch_of (first_forms u)) (Object doc) ~ Object u.doc
 
+abbrev pub SecondFormRecords : Type 0
+SecondFormRecords = (d doc : Fields) (u : Updated) → ops_fault d ≡ None → updated (operators d) doc ≡ Ok u → Records V2 (map touch_of u.touches) (Object doc) (Object u.doc)
+
 abbrev pub SecondFormReplays : Type 0
-SecondFormReplays = (d doc : Fields) (u : Updated) → ops_fault d ≡ None → updated (operators d) doc ≡ Ok u → HaveNoLength u.touches → played_all V2 (map touch_of u.touches) (Object doc) ~ Object u.doc
+SecondFormReplays = (d doc : Fields) (u : Updated) → ops_fault d ≡ None → updated (operators d) doc ≡ Ok u → played_all V2 (map touch_of u.touches) (Object doc) ~ Object u.doc

@@ -1,5 +1,5 @@
 //! Laws of updates that are replayed. Each function does nothing, and its caller learns the law.
-ghost use Rattle.update_replay.specs.Laws.{NamesRecord, FirstFormRecords, FirstFormReplays, SecondFormReplays};
+ghost use Rattle.update_replay.specs.Laws.{NamesRecord, FirstFormRecords, FirstFormReplays, SecondFormRecords, SecondFormReplays};
 
 /// What is recorded in the second form is recorded in the first one, with the names of digits for
 /// indexes.
@@ -15,7 +15,9 @@ pub fn first_form_is_replayed()
     ensures replays { FirstFormReplays }
 {}
 
-/// The same in the second form of an update whose touches have no Resize.
+/// The same in the second form, with the touches as they are: no operator changes the other elements of an
+/// array that was cut.
 pub fn second_form_is_replayed()
-    ensures { SecondFormReplays }
+    ensures records { SecondFormRecords }
+    ensures replays { SecondFormReplays }
 {}
