@@ -33,7 +33,7 @@ pub first_put : (s : Rows) (n : NsName) (k : Key) (d : Document) → map.contain
 first_put s n k d e =
     (let t = fresh_table s.count no_options in
     let made : map.insert (map.insert s.tables n t) n (put_table k d (or_fresh (s.count + 1) (map.get (map.insert s.tables n t) n))) ≡ map.insert s.tables n (put_table k d (or_fresh s.count (map.get s.tables n))) =
-        ap (λ (o : Option Table). map.insert (map.insert s.tables n t) n (put_table k d (or_fresh (s.count + 1) o))) (ns_insert_here s.tables n t)
-        ∙ (insert_twice s.tables n t (put_table k d t)
-        ∙ ap (λ (u : Table). map.insert s.tables n (put_table k d u)) (sym (missing_fresh s.count (map.get s.tables n) e))) in
+    ap (λ (o : Option Table). map.insert (map.insert s.tables n t) n (put_table k d (or_fresh (s.count + 1) o))) (ns_insert_here s.tables n t)
+    ∙ (insert_twice s.tables n t (put_table k d t)
+    ∙ ap (λ (u : Table). map.insert s.tables n (put_table k d u)) (sym (missing_fresh s.count (map.get s.tables n) e))) in
     λ i. record { tables = made i; count = two_more s.count i })
