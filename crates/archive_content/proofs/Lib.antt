@@ -1,0 +1,4 @@
+pub mod Blocks
+pub mod Pieces
+pub mod Seats
+pub mod Contents
