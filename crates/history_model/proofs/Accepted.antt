@@ -8,6 +8,7 @@ use Rattle.bson_value.specs.Place.{shape}
 use Rattle.bson_encode.specs.Key.{key_of}
 use Rattle.json_tree.specs.declared.tree.Tree.{Tree}
 use Rattle.doc_path.specs.declared.parts.Form.{Form}
+use Rattle.doc_path.specs.declared.touches.Touch.{Touch}
 use Rattle.doc_path.specs.Played.{touch_of}
 use Rattle.doc_path.proofs.Steps.{shape-object}
 use Rattle.state_model.specs.Keys.{Key}
@@ -34,13 +35,14 @@ use Rattle.copy_model.specs.Writes.{IsRecorded, PutInIsRecorded, PutIsRecorded, 
 use Rattle.copy_model.specs.Writes as writes
 use Rattle.copy_model.proofs.RowWrites.{change_sound}
 use Rattle.history_model.specs.Documents.{id_first, options_of, normal_of}
-use Rattle.history_model.specs.Entries.{Item, item_moves, written_form, is_longer, delta_or_whole, update_item}
+use Rattle.update_action.specs.Recorded.{recorded}
+use Rattle.history_model.specs.Entries.{Item, item_moves, delta_or_whole, update_item}
 use Rattle.history_model.specs.Entries as entries
 use Rattle.history_model.specs.Stages.{Stage, Effect, rows_by, stage_by, made_in}
 use Rattle.history_model.specs.Refusals.{first_of, document_rows, document_refusal, index_rows, row_in, row_at, row_named, accepted, update_of}
 use Rattle.history_model.specs.Commands.{RecordedWrite, put_change, unless_same, update_changes, replace_changes, insert_changes, under_id, document_changes, rows_of_changes, and_then, changes_together, group_of, is_too_large, or_too_large, grouped, one_each, unless_refused, index_effects, command_rows, command_effects, effects}
 use Rattle.history_model.specs.Recordings.{EachRecorded, IsRecordedBy, AllMade}
-use Rattle.history_model.specs.Laws.{UpdatesAreRecorded}
+use Rattle.history_model.specs.Laws.{AreRecorded, UpdatesAreRecorded}
 
 -- where nothing is refused no condition holds
 abbrev pub AllFalse : List (Bool × Refused) → Type 0
@@ -109,22 +111,21 @@ accepted_ok None (Err f) u e = cc
 accepted_ok (Some f) x u e = cc
 
 update_ok : UpdatesAreRecorded → (f : Form) (n : NsName) (id : Value) (ops : Fields) (r : Rows) (u : Option Table) → map.get r.tables n ≡ u → ChangesOk (update_changes f n id (row_in (key_of id) u) (update_of (row_in (key_of id) u) ops)) r
-update_ok recorded f n id ops r None e = tt
-update_ok recorded f n id ops r (Some t) e = there (row_of t.rows (key_of id)) refl
+update_ok are_recorded f n id ops r None e = tt
+update_ok are_recorded f n id ops r (Some t) e = there (row_of t.rows (key_of id)) refl
   where
-    entry : (w : Row) (u : Updated) → accepted (ops_fault ops) (updated (operators ops) w.document) ≡ Some u → (b : Bool) →
-        PutIsRecorded n (key_of id) u.doc (Some (Object w.document)) (item_moves (delta_or_whole b n id f u.doc (written_form f u.doc u.touches)))
-    entry w u g true = inl (refl, same_shape u.doc w.document)
-    entry w u g false =
-        (let b = accepted_ok (ops_fault ops) (updated (operators ops) w.document) u g in
-        let h = recorded f w.document ops u b.0 b.1 in
-        inr (record { form = f; touches = each touch_of (written_form f u.doc u.touches); deltas_of = refl; none_left = h.0; records = h.1 }))
+    entry : (w : Row) (u : Updated) (o : Option (Form × List Touch)) → AreRecorded o w.document u.doc → PutIsRecorded n (key_of id) u.doc (Some (Object w.document)) (item_moves (delta_or_whole n id u.doc o))
+    entry w u None h = inl (refl, same_shape u.doc w.document)
+    entry w u (Some x) h = inr (record { form = x.0; touches = each touch_of x.1; deltas_of = refl; none_left = h.0; records = h.1 })
+
+    told : (w : Row) (u : Updated) → accepted (ops_fault ops) (updated (operators ops) w.document) ≡ Some u → AreRecorded (recorded f u.doc u.touches) w.document u.doc
+    told w u g = (let b = accepted_ok (ops_fault ops) (updated (operators ops) w.document) u g in are_recorded f w.document ops u b.0 b.1)
 
     made : (w : Row) → row_of t.rows (key_of id) ≡ Some w → (x : Option Updated) → accepted (ops_fault ops) (updated (operators ops) w.document) ≡ x → ChangesOk (update_changes f n id (Some w) x) r
     made w g None h = tt
     made w g (Some u) h =
         unless_ok w.document u.doc (put_change n id u.doc (update_item f n id u.doc u.touches) ∷ []) r
-        (put_over n id u.doc (update_item f n id u.doc u.touches) r t w e g (entry w u h (is_longer f u.doc (written_form f u.doc u.touches))))
+        (put_over n id u.doc (update_item f n id u.doc u.touches) r t w e g (entry w u (recorded f u.doc u.touches) (told w u h)))
 
     there : (w : Option Row) → row_of t.rows (key_of id) ≡ w → ChangesOk (update_changes f n id w (update_of w ops)) r
     there None g = tt

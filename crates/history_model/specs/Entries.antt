@@ -1,12 +1,11 @@
 -- What is recorded of writes: the entries of the oplog, and the moves that each stands for.
-use Rattle.std.specs.Prelude.{ℕ, suc, List, [], ◌∷◌, map as each, length, nat_lt, codes, Bool, true, false, Option, Some, None, Result, Ok, Err}
+use Rattle.std.specs.Prelude.{ℕ, List, [], ◌∷◌, map as each, length, codes, Option, Some, None, Result, Ok, Err}
 use Rattle.bson_value.specs.declared.namespace.NsName.{NsName}
 use Rattle.bson_value.specs.declared.value.Value.{Value, Object}
 use Rattle.bson_value.specs.declared.value.Ts.{Ts}
 use Rattle.bson_value.specs.Spelling.{document_text}
 use Rattle.bson_encode.specs.Key.{key_of}
 use Rattle.doc_path.specs.declared.parts.Form.{Form}
-use Rattle.doc_path.specs.declared.parts.Form.TheVariants.{V1, V2}
 use Rattle.doc_path.specs.declared.touches.Touch.{Touch}
 use Rattle.doc_path.specs.Played.{touch_of}
 use Rattle.extjson.specs.Values.{value_of}
@@ -17,30 +16,13 @@ use Rattle.state_model.specs.Windows.{joined}
 use Rattle.coll_state.specs.Rows.{Document as Fields}
 use Rattle.coll_state.specs.Definitions.{definition_name}
 use Rattle.update_model.specs.Updating.{fields_of}
-use Rattle.update_replay.specs.Forms.{first_form}
 use Rattle.entry_model.specs.declared.entry.Action.{Action}
 use Rattle.entry_model.specs.declared.entry.Action.TheVariants as actions
 use Rattle.entry_model.specs.declared.entry.Entry.{Entry}
-use Rattle.entry_model.specs.declared.fault.EntryFault.{EntryFault}
-use Rattle.entry_model.specs.Touches.{written, touches_read}
-use Rattle.entry_model.specs.Spelling.{level_limit, entry_fields}
+use Rattle.entry_model.specs.Spelling.{entry_fields}
+use Rattle.update_action.specs.Recorded.{recorded}
 use Rattle.copy_model.specs.Writes.{deltas}
 use Rattle.history_model.specs.Documents.{options_of}
-
--- ---- the touches of an update, as they are written
-
-abbrev pub touches_in : Result (Form × List Touch) EntryFault → List Touch
-touches_in (Ok r) = r.1
-touches_in (Err e) = []
-
--- in the order of the fields that spell them
-abbrev pub in_order : Form → List Touch → List Touch
-in_order f ts = touches_in (touches_read (suc level_limit) (written f level_limit ts))
-
--- the first form has names alone, nothing that is new, and no lengths: the array as it stands after the update is set
-unfoldable pub written_form : Form → Fields → List Touch → List Touch
-written_form V1 new ts = in_order V1 (each (first_form (Object new)) ts)
-written_form V2 new ts = in_order V2 ts
 
 -- ---- entries
 
@@ -131,13 +113,10 @@ content_size c = size_of (record { ts = no_ts; content = c })
 
 -- ---- what is recorded of an update
 
--- the delta in written form, or the whole document exactly where the delta is longer
-abbrev pub delta_or_whole : Bool → NsName → Value → Form → Fields → List Touch → Item
-delta_or_whole true n id f new ts = Whole n id new
-delta_or_whole false n id f new ts = Delta n id f ts
-
-unfoldable pub is_longer : Form → Fields → List Touch → Bool
-is_longer f new ts = nat_lt (length (document_text new)) (length (document_text (written f level_limit ts)))
+-- the delta, or the whole document
+abbrev pub delta_or_whole : NsName → Value → Fields → Option (Form × List Touch) → Item
+delta_or_whole n id new None = Whole n id new
+delta_or_whole n id new (Some r) = Delta n id r.0 r.1
 
 abbrev pub update_item : Form → NsName → Value → Fields → List Touch → Item
-update_item f n id new ts = delta_or_whole (is_longer f new (written_form f new ts)) n id f new (written_form f new ts)
+update_item f n id new ts = delta_or_whole n id new (recorded f new ts)

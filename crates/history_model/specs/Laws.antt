@@ -4,6 +4,7 @@ use Rattle.bson_value.specs.declared.namespace.NsName.{NsName}
 use Rattle.bson_value.specs.declared.value.Value.{Object}
 use Rattle.bson_value.specs.declared.value.Ts.{Ts}
 use Rattle.doc_path.specs.declared.parts.Form.{Form}
+use Rattle.doc_path.specs.declared.touches.Touch.{Touch}
 use Rattle.doc_path.specs.Played.{NoneLeft, touch_of}
 use Rattle.touch_laws.specs.Agree.{Records}
 use Rattle.state_model.specs.Moves.{Move}
@@ -21,7 +22,8 @@ use Rattle.schedule_model.specs.declared.line.Line.{Line}
 use Rattle.schedule_model.specs.declared.line.Line.TheVariants.{Mark, Tail}
 use Rattle.copy_model.specs.Cursors.{Copy}
 use Rattle.copy_model.specs.Copies.{after, rows_after, AllRecorded, copy_of}
-use Rattle.history_model.specs.Entries.{OplogEntry, written_form}
+use Rattle.update_action.specs.Recorded.{recorded}
+use Rattle.history_model.specs.Entries.{OplogEntry}
 use Rattle.history_model.specs.Stages.{Write, Caps, Made, Oplog, first_ts, earlier, not_later, kept, turned}
 use Rattle.history_model.specs.Runs.{Schedule, Run, Done, DumpState, Entries, run, started, on_line, after_lines, all_entries, window, entries_from, is_gone}
 use Rattle.history_model.specs.Histories.{history_of, history, state, before, source, is_before, moments, at, outcome, reads, sent_in}
@@ -29,10 +31,14 @@ use Rattle.history_model.specs.Recordings.{AllMade, NoRenames, made_by, events_o
 use Rattle.history_model.specs.Indexes.{IndexesHold}
 use Rattle.history_model.specs.Invariants.{RisesTo, NoRename, RunOk, Has, Mirrors, CopiedOut}
 
--- the touches of an accepted update, in written form, record it, and replay leaves none of them at once
+-- touches that are recorded record the update, and replay leaves none of them at once
+abbrev pub AreRecorded : Option (Form × List Touch) → Fields → Fields → Type 0
+AreRecorded None old new = ⊤
+AreRecorded (Some r) old new = NoneLeft (each touch_of r.1) × Records r.0 (each touch_of r.1) (Object old) (Object new)
+
+-- of every accepted update
 abbrev pub UpdatesAreRecorded : Type 0
-UpdatesAreRecorded = (f : Form) (old ops : Fields) (u : Updated) → ops_fault ops ≡ None → updated (operators ops) old ≡ Ok u →
-    NoneLeft (each touch_of (written_form f u.doc u.touches)) × Records f (each touch_of (written_form f u.doc u.touches)) (Object old) (Object u.doc)
+UpdatesAreRecorded = (f : Form) (old ops : Fields) (u : Updated) → ops_fault ops ≡ None → updated (operators ops) old ≡ Ok u → AreRecorded (recorded f u.doc u.touches) old u.doc
 
 -- ---- of every schedule
 

@@ -10,6 +10,7 @@ use Rattle.doc_path.specs.declared.parts.Form.TheVariants.{V1, V2}
 use Rattle.doc_path.specs.declared.touches.Touch.{Touch}
 use Rattle.doc_path.specs.declared.touches.Touch.TheVariants.{Set, Unset, Resize}
 use Rattle.doc_path.specs.Ways.{value_in}
+use Rattle.update_replay.specs.Forms.{first_form}
 use Rattle.entry_model.specs.declared.entry.Action.{Action}
 use Rattle.entry_model.specs.declared.entry.Action.TheVariants.{Whole, Delta}
 use Rattle.entry_model.specs.Written.{Fields}
@@ -17,21 +18,21 @@ use Rattle.entry_model.specs.Touches.{written, touches_read}
 use Rattle.entry_model.specs.Reading.{Read}
 use Rattle.entry_model.specs.Spelling.{level_limit}
 
--- ---- in the first form a Set of the whole array stands for a length
+-- ---- the touches in a form; new is the document after the update
 
+abbrev pub in_form : Form → Value → List Touch → List Touch
+in_form V1 new ts = map (first_form new) ts
+in_form V2 new ts = ts
+
+-- the same with indexes where the first form has the names of their digits, which are spelled alike
 abbrev pub set_or_length : List Part → ℕ → Option Value → Touch
 set_or_length place n None = Resize place n
 set_or_length place n (Some a) = Set place a false
 
--- new is the document after the update
-abbrev pub whole_array : Value → Touch → Touch
-whole_array new (Set place a fresh) = Set place a fresh
-whole_array new (Unset place) = Unset place
-whole_array new (Resize place n) = set_or_length place n (value_in place new)
-
-abbrev pub in_form : Form → Value → List Touch → List Touch
-in_form V1 new ts = map (whole_array new) ts
-in_form V2 new ts = ts
+abbrev pub without_length : Value → Touch → Touch
+without_length new (Set place a fresh) = Set place a fresh
+without_length new (Unset place) = Unset place
+without_length new (Resize place n) = set_or_length place n (value_in place new)
 
 -- ---- the delta, and its reading
 
@@ -56,12 +57,13 @@ delta_of form new ts = touches_in (document_of byte_limit level_limit (delta_tex
 
 -- ---- the action
 
--- the whole document stands for a delta that isn't read again
+-- the touches that are recorded, with their form; none where the whole document is: its delta is longer, or isn't read again
+abbrev pub recorded : Form → Fields → List Touch → Option (Form × List Touch)
+recorded form new ts = if nat_lt (length (document_text new)) (length (delta_text form new ts)) then None else delta_of form new ts
+
 abbrev pub delta_or_whole : Value → Fields → Option (Form × List Touch) → Action
 delta_or_whole id new (Some r) = Delta id r.0 r.1
 delta_or_whole id new None = Whole id new
 
 abbrev pub action_of : Form → Value → Fields → List Touch → Action
-action_of form id new ts =
-    if nat_lt (length (document_text new)) (length (delta_text form new ts)) then Whole id new
-    else delta_or_whole id new (delta_of form new ts)
+action_of form id new ts = delta_or_whole id new (recorded form new ts)

@@ -1,9 +1,9 @@
 //! The delta of an update, and the touches that are read of it.
-ghost use Rattle.std.specs.Prelude.{◌≡◌, IfOk};
+ghost use Rattle.std.specs.Prelude.{◌≡◌, IfOk, map};
 ghost use Rattle.bson_value.specs.declared.value.Value.{Object};
 ghost use Rattle.bson_check.specs.Reading.{document_of};
 ghost use Rattle.entry_model.specs.Spelling.{level_limit};
-ghost use Rattle.update_action.specs.Recorded.{set_or_length, whole_array, in_form, delta_text, touches_in, byte_limit};
+ghost use Rattle.update_action.specs.Recorded.{without_length, delta_text, touches_in, byte_limit};
 
 use bson_check::DecodeFault;
 use bson_core::decode;
@@ -16,7 +16,7 @@ use std::alloc::{AllocError, Global};
 
 /// A Set of the whole array that stands at the place, in place of its length.
 fn whole_array(alloc: Global, new: &Doc, place: &Place, len: u32) -> Result<Touch, AllocError>
-    ensures { IfOk result (λ t. t ≡ whole_array (Object new.now) (Touch.Resize place.now len)) }
+    ensures { IfOk result (λ t. t ≡ without_length (Object new.now) (Touch.Resize place.now len)) }
 {
     let place_copy = place.copy(alloc)?;
     match at(new, place) {
@@ -32,9 +32,9 @@ fn whole_array(alloc: Global, new: &Doc, place: &Place, len: u32) -> Result<Touc
     }
 }
 
-/// The touch in the first form.
-fn in_first_form(alloc: Global, new: &Doc, touch: &Touch) -> Result<Touch, AllocError>
-    ensures { IfOk result (λ t. t ≡ whole_array (Object new.now) touch.now) }
+/// The touch with a Set of the whole array in the place of its length.
+fn without_length(alloc: Global, new: &Doc, touch: &Touch) -> Result<Touch, AllocError>
+    ensures { IfOk result (λ t. t ≡ without_length (Object new.now) touch.now) }
 {
     match touch {
         Touch::Set {
@@ -53,13 +53,17 @@ fn in_first_form(alloc: Global, new: &Doc, touch: &Touch) -> Result<Touch, Alloc
     }
 }
 
-/// The touches in the first form.
-fn all_in_first_form(alloc: Global, new: &Doc, touches: &[Touch]) -> Result<List<Touch>, AllocError>
-    ensures { IfOk result (λ ts. ts ≡ in_form Form.V1 (Object new.now) touches.now) }
+/// The touches without lengths. Their indexes are spelled as the names of the first form.
+fn all_without_length(
+    alloc: Global,
+    new: &Doc,
+    touches: &[Touch],
+) -> Result<List<Touch>, AllocError>
+    ensures { IfOk result (λ ts. ts ≡ map (without_length (Object new.now)) touches.now) }
 {
     let mut all = List::new(alloc);
     for touch in touches {
-        all.push(in_first_form(alloc, new, touch)?)?;
+        all.push(without_length(alloc, new, touch)?)?;
     }
     Ok(all)
 }
@@ -75,7 +79,7 @@ pub(crate) fn delta_text(
 {
     match form {
         Form::V1 => {
-            let all = all_in_first_form(alloc, new, touches)?;
+            let all = all_without_length(alloc, new, touches)?;
             write_delta(alloc, form, all.as_slice())
         }
         Form::V2 => write_delta(alloc, form, touches),

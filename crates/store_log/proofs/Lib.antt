@@ -1,0 +1,4 @@
+pub mod Pushes
+pub mod Newest
+pub mod Trims
+pub mod Kept
