@@ -10,7 +10,7 @@ use Rattle.doc_path.specs.declared.parts.Form.TheVariants.{V1, V2}
 use Rattle.doc_path.specs.declared.touches.Touch.{Touch}
 use Rattle.doc_path.specs.declared.touches.Touch.TheVariants.{Set, Unset, Resize}
 use Rattle.doc_path.specs.Ways.{value_in}
-use Rattle.update_replay.specs.Forms.{first_form}
+use Rattle.update_replay.specs.Forms.{in_form}
 use Rattle.entry_model.specs.declared.entry.Action.{Action}
 use Rattle.entry_model.specs.declared.entry.Action.TheVariants.{Whole, Delta}
 use Rattle.entry_model.specs.Written.{Fields}
@@ -18,13 +18,8 @@ use Rattle.entry_model.specs.Touches.{written, touches_read}
 use Rattle.entry_model.specs.Reading.{Read}
 use Rattle.entry_model.specs.Spelling.{level_limit}
 
--- ---- the touches in a form; new is the document after the update
+-- ---- in the first form, with indexes where it has the names of their digits, which are spelled alike; new is the document after the update
 
-abbrev pub in_form : Form → Value → List Touch → List Touch
-in_form V1 new ts = map (first_form new) ts
-in_form V2 new ts = ts
-
--- the same with indexes where the first form has the names of their digits, which are spelled alike
 abbrev pub set_or_length : List Part → ℕ → Option Value → Touch
 set_or_length place n None = Resize place n
 set_or_length place n (Some a) = Set place a false

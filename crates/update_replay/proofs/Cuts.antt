@@ -1,6 +1,6 @@
 -- An array that an update cut: its other elements are as before the update, whatever its operators did one after the other.
-use Rattle.std.proofs.Common.{◌≡◌, ◌≢◌, ℕ, List, [], ◌∷◌, ◌++◌, Bool, true, false, refl, sym, ap, ◌∙◌, subst, Option, Some, None, inl, inr}
-use Rattle.std.specs.Prelude.{⊤, ◌⊎◌, ◌||◌, if◌then◌else◌, Ok, Err, option_map}
+use Rattle.std.proofs.Common.{◌≡◌, ◌≢◌, ℕ, List, [], ◌∷◌, ◌++◌, Bool, true, false, refl, sym, ap, ◌∙◌, subst, Option, Some, None, inl, inr, cond, length}
+use Rattle.std.specs.Prelude.{⊤, ◌⊎◌, ◌||◌, if◌then◌else◌, Ok, Err, option_map, ◌==◌, nat_lt}
 use Rattle.std.specs.List.{list_any, flat_map}
 use Rattle.bson_value.specs.declared.value.Value.{Value, Value-F, out-Value}
 use Rattle.bson_value.specs.Place.{Shape, an_array, look}
@@ -24,10 +24,17 @@ use Rattle.update_model.specs.Reading.{name_of, Met, Taken, Refused, starts_with
 use Rattle.update_model.specs.Steps.{Trace, after, marks_of}
 use Rattle.update_model.specs.Acts.{Act, Steps, Oversized, act}
 use Rattle.update_model.specs.Acts as acts
-use Rattle.update_model.specs.Updating.{Outcome, fields_of, refusal_at_end, ended, and_more, on_act, outcome}
+use Rattle.update_model.specs.declared.fault.UpdateFault.TheVariants as update_faults
+use Rattle.update_model.specs.Updating.{Outcome, fields_of, refusal_at_end, ended, and_more, on_act, outcome, byte_limit, level_limit}
+use Rattle.bson_value.specs.Levels.{levels_of}
+use Rattle.bson_value.specs.Spelling.{document_text}
+use Rattle.doc_path.specs.Paths.{dot}
+use Rattle.std.specs.List.{onto_first}
+use Rattle.std.proofs.lemmas.List.Elements.{All-nil, All-cons}
 use Rattle.update_model.proofs.MarkTheory.{In, in_append}
 use Rattle.update_replay.proofs.Kept.{no_some, conflict_turned, Kept, kept_none, kept_then, at_place}
-use Rattle.update_replay.proofs.Spared.{CutAt, IsCutBy, Does, IsDone, act_does}
+use Rattle.update_replay.specs.Plain.{Undotted, ArePlain}
+use Rattle.update_replay.proofs.Spared.{CutAt, IsCutBy, Does, IsDone, act_does, IsMarked, AllMarked}
 
 -- ---- the paths of operators
 
@@ -216,6 +223,87 @@ named_paths : (o : Option OperatorName) (v : Value) → NoneRefused (met_field o
 named_paths None v n = absurd n
 named_paths (Some name) v n = field_paths name (out-Value v) n
 
+-- ---- the paths that are read have names without dots
+
+abbrev pub AllPlain : List Path → Type 0
+AllPlain [] = ⊤
+AllPlain (p ∷ ps) = ArePlain p × AllPlain ps
+
+undotted_first : (b : ℕ) (ps : Path) → Undotted b → ArePlain ps → ArePlain (onto_first b ps)
+undotted_first b [] h a = (All-cons Undotted b [] h (All-nil Undotted), tt)
+undotted_first b (k ∷ ps) h a = (All-cons Undotted b k h a.0, a.1)
+
+parts_plain : (text : List ℕ) → ArePlain (parts_of text)
+parts_plain [] = (All-nil Undotted, tt)
+parts_plain (b ∷ text) = by (b == dot) refl (parts_plain text)
+  where
+    by : (c : Bool) → (b == dot) ≡ c → ArePlain (parts_of text) → ArePlain (cond c ([] ∷ parts_of text) (onto_first b (parts_of text)))
+    by true e later = (All-nil Undotted, later)
+    by false e later = undotted_first b (parts_of text) e later
+
+abbrev PlainMet : Met → Type 0
+PlainMet (Taken p) = ArePlain p
+PlainMet (Refused e) = ⊤
+
+abbrev PlainMets : List Met → Type 0
+PlainMets [] = ⊤
+PlainMets (m ∷ ms) = PlainMet m × PlainMets ms
+
+met_plain : (text : List ℕ) (fits : Bool) → PlainMet (met text fits)
+met_plain text fits = by (path_fault text)
+  where
+    last : (b c : Bool) → PlainMet (if b then Refused faults.ImmutableId else if c then Taken (parts_of text) else Refused faults.BadArgument)
+    last true c = tt
+    last false true = parts_plain text
+    last false false = tt
+
+    by : (o : Option PathFault) → PlainMet (met_by o (parts_of text) fits)
+    by (Some f) = tt
+    by None = last (starts_with_id (parts_of text)) fits
+
+target_plain : (o : Option (List ℕ)) → PlainMets (target o)
+target_plain None = tt
+target_plain (Some t) = (met_plain t true, tt)
+
+targets_plain : (name : OperatorName) (v : Value) → PlainMets (targets name v)
+targets_plain names.Set v = tt
+targets_plain names.Unset v = tt
+targets_plain names.Inc v = tt
+targets_plain names.Mul v = tt
+targets_plain names.Rename v = target_plain (text_in (out-Value v))
+targets_plain names.Push v = tt
+targets_plain names.AddToSet v = tt
+targets_plain names.Pop v = tt
+targets_plain names.Pull v = tt
+
+mets_both : (ms ns : List Met) → PlainMets ms → PlainMets ns → PlainMets (ms ++ ns)
+mets_both [] ns a b = b
+mets_both (m ∷ ms) ns a b = (a.0, mets_both ms ns a.1 b)
+
+mets_all : {X : Type 0} (f : X → List Met) → ((x : X) → PlainMets (f x)) → (xs : List X) → PlainMets (flat_map f xs)
+mets_all f h [] = tt
+mets_all f h (x ∷ xs) = mets_both (f x) (flat_map f xs) (h x) (mets_all f h xs)
+
+paths_plain : (name : OperatorName) (v : Value-F Value) → PlainMets (met_paths name v)
+paths_plain name (Value-F.Object fs) = mets_all (met_at name) (λ f. (met_plain f.0 (is_some (operator_of name (parts_of f.0) f.1)), targets_plain name f.1)) fs
+paths_plain name _ = (tt, tt)
+
+field_plain : (o : Option OperatorName) (v : Value) → PlainMets (met_field o v)
+field_plain None v = (tt, tt)
+field_plain (Some name) v = paths_plain name (out-Value v)
+
+taken_plain : (ms : List Met) → PlainMets ms → AllPlain (taken ms)
+taken_plain [] h = tt
+taken_plain (Taken p ∷ ms) h = (h.0, taken_plain ms h.1)
+taken_plain (Refused e ∷ ms) h = taken_plain ms h.1
+
+pub read_plain : (doc : Fields) → ops_fault doc ≡ None → AllPlain (all_paths (operators doc))
+read_plain doc e =
+    let s = sound [] (all_met doc) e in
+    subst AllPlain
+    (sym (all_taken (λ (f : List ℕ × Value). met_field (name_of f.0) f.1) (λ (f : List ℕ × Value). operators_in (name_of f.0) f.1) (λ f. named_paths (name_of f.0) f.1) doc s.none))
+    (taken_plain (all_met doc) (mets_all (λ (f : List ℕ × Value). met_field (name_of f.0) f.1) (λ f. field_plain (name_of f.0) f.1) doc))
+
 -- the paths of operators that were read don't conflict
 pub read_apart : (doc : Fields) → ops_fault doc ≡ None → Pairwise (all_paths (operators doc))
 read_apart doc e =
@@ -268,6 +356,28 @@ op_cuts (operators_are.AddToSet path vs) v ss m d i c = cut_in_one path m v ss d
 op_cuts (operators_are.Pop path end) v ss m d i c = cut_in_one path m v ss d i c
 op_cuts (operators_are.Pull path a) v ss m d i c = cut_in_one path m v ss d i c
 
+plain_left : (ps qs : List Path) → AllPlain (ps ++ qs) → AllPlain ps
+plain_left [] qs h = tt
+plain_left (p ∷ ps) qs h = (h.0, plain_left ps qs h.1)
+
+plain_right : (ps qs : List Path) → AllPlain (ps ++ qs) → AllPlain qs
+plain_right [] qs h = h
+plain_right (p ∷ ps) qs h = plain_right ps qs h.1
+
+weaker : (P Q : Type 0) (ms : List Mark) → (Q → P) → AllMarked P ms → AllMarked Q ms
+weaker P Q ms h a m i = let x = a m i in record { fresh = x.fresh; plain = λ q. x.plain (h q) }
+
+op_marked : (o : Operator) (v : Value) (ss : Trace) → IsDone o v ss → AllMarked (AllPlain (paths_of o)) (marks_of ss)
+op_marked (operators_are.Set path a) v ss d = weaker (ArePlain path) _ (marks_of ss) (λ x. x.0) d.marked
+op_marked (operators_are.Unset path) v ss d = weaker (ArePlain path) _ (marks_of ss) (λ x. x.0) d.marked
+op_marked (operators_are.Inc path n) v ss d = weaker (ArePlain path) _ (marks_of ss) (λ x. x.0) d.marked
+op_marked (operators_are.Mul path n) v ss d = weaker (ArePlain path) _ (marks_of ss) (λ x. x.0) d.marked
+op_marked (operators_are.Rename from to) v ss d = weaker (ArePlain from × ArePlain to) _ (marks_of ss) (λ x. (x.0, x.1.0)) d.marked
+op_marked (operators_are.Push path vs) v ss d = weaker (ArePlain path) _ (marks_of ss) (λ x. x.0) d.marked
+op_marked (operators_are.AddToSet path vs) v ss d = weaker (ArePlain path) _ (marks_of ss) (λ x. x.0) d.marked
+op_marked (operators_are.Pop path end) v ss d = weaker (ArePlain path) _ (marks_of ss) (λ x. x.0) d.marked
+op_marked (operators_are.Pull path a) v ss d = weaker (ArePlain path) _ (marks_of ss) (λ x. x.0) d.marked
+
 -- what an outcome is made of
 record Ran (o : Operator) (os : List Operator) (large : Bool) (v : Value) (ss : Trace) : Type 0 where
   first : Trace
@@ -275,6 +385,7 @@ record Ran (o : Operator) (os : List Operator) (large : Bool) (v : Value) (ss : 
   now : Bool
   does : ((q : Path) → AllApart q (paths_of o) → Kept q v (after v first))
   cuts : ((m : Mark) → In m (marks_of first) → m.made ≡ made.Cut → CutIn (paths_of o) m v (after v first))
+  marked : AllMarked (AllPlain (paths_of o)) (marks_of first)
   later : outcome os now (after v first) ≡ Ok rest
   all : ss ≡ first ++ rest
 
@@ -288,6 +399,7 @@ ran o os large v ss e = by (act o v) refl e
       now = large;
       does = λ q h. op_keeps o v ts q (act_does o v ts a) h;
       cuts = λ m i c. op_cuts o v ts m (act_does o v ts a) i c;
+      marked = op_marked o v ts (act_does o v ts a);
       later = f;
       all = let h : ts ++ rest ≡ ss = cc in sym h;
     }
@@ -302,6 +414,7 @@ ran o os large v ss e = by (act o v) refl e
       now = true;
       does = λ q h. kept_none q v;
       cuts = λ m i c. absurd i;
+      marked = λ m i. absurd i;
       later = f;
       all = refl;
     }
@@ -317,6 +430,32 @@ all_keep (o ∷ os) large v ss q h e =
     let r = ran o os large v ss e in
     let k = kept_then q v (after v r.first) (after (after v r.first) r.rest) (r.does q (apart_left q (paths_of o) (all_paths os) h)) (all_keep os r.now (after v r.first) r.rest q (apart_right q (paths_of o) (all_paths os) h) r.later) in
     subst (λ (z : Trace). Kept q v (after v z)) (sym r.all) (subst (Kept q v) (sym (after_append r.first r.rest v)) k)
+
+-- each mark of a field that is new has a name, and all have places without dots where the paths have none
+pub all_marked : (os : List Operator) (large : Bool) (v : Value) (ss : Trace) → AllPlain (all_paths os) → outcome os large v ≡ Ok ss → (m : Mark) → In m (marks_of ss) → IsMarked ⊤ m
+all_marked [] large v ss h e m i = absurd (subst (λ (z : Trace). In m (marks_of z)) (sym (ended_none (refusal_at_end large (fields_of v)) ss e)) i)
+all_marked (o ∷ os) large v ss h e m i =
+    let r = ran o os large v ss e in
+    by r.first r.rest (λ j. r.marked m j) (in_append (marks_of r.first) (marks_of r.rest) m (subst (In m) (ap marks_of r.all ∙ marks_append r.first r.rest) i))
+    (λ j. all_marked os r.now (after v r.first) r.rest (plain_right (paths_of o) (all_paths os) h) r.later m j)
+  where
+    by : (first rest : Trace) → (In m (marks_of first) → IsMarked (AllPlain (paths_of o)) m) → In m (marks_of first) ⊎ In m (marks_of rest) → (In m (marks_of rest) → IsMarked ⊤ m) → IsMarked ⊤ m
+    by first rest now (inl j) later = let x = now j in record { fresh = x.fresh; plain = λ q. x.plain (plain_left (paths_of o) (all_paths os) h) }
+    by first rest now (inr j) later = later j
+
+-- the last document has no more levels than an update may make
+pub last_is_low : (os : List Operator) (large : Bool) (v : Value) (ss : Trace) → outcome os large v ≡ Ok ss → nat_lt level_limit (levels_of (fields_of (after v ss))) ≡ false
+last_is_low [] large v ss e = subst (λ (z : Trace). nat_lt level_limit (levels_of (fields_of (after v z))) ≡ false) (ended_none (refusal_at_end large (fields_of v)) ss e) (by large (nat_lt byte_limit (length (document_text (fields_of v)))) (nat_lt level_limit (levels_of (fields_of v))) e)
+  where
+    by : (l b d : Bool) → ended (if l then Some update_faults.TooLong else if b then Some update_faults.TooLong else if d then Some update_faults.Deep else None) ≡ Ok ss → d ≡ false
+    by true b d f = cc
+    by false true d f = cc
+    by false false true f = cc
+    by false false false f = refl
+last_is_low (o ∷ os) large v ss e =
+    let r = ran o os large v ss e in
+    subst (λ (z : Trace). nat_lt level_limit (levels_of (fields_of (after v z))) ≡ false) (sym r.all)
+    (subst (λ (z : Value). nat_lt level_limit (levels_of (fields_of z)) ≡ false) (sym (after_append r.first r.rest v)) (last_is_low os r.now (after v r.first) r.rest r.later))
 
 some_there : (o : Option Shape) (s : Shape) → o ≡ Some s → o ≢ None
 some_there o s e n = no_some o s n e

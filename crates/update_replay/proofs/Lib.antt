@@ -3,4 +3,5 @@ pub mod Kept
 pub mod Spared
 pub mod Cuts
 pub mod Lengths
+pub mod PlainTouches
 pub mod Replayed

@@ -142,7 +142,7 @@ first_stays z (Sets place a fresh) e = let h = place_stays place (Put a) e in pu
 first_stays z (Unsets place) e = let h = place_stays place Delete e in delete_stays place h.0 h.1
 first_stays z (Resizes place n) e = whole_stays place n (value_in place z) e
 
-none_first : (z : Value) (ts : List Touch) → NoneLeft (map touch_of ts) → NoneLeft (map touch_of (map (first_form z) ts))
+pub none_first : (z : Value) (ts : List Touch) → NoneLeft (map touch_of ts) → NoneLeft (map touch_of (map (first_form z) ts))
 none_first z [] h = tt
 none_first z (t ∷ ts) h = (first_stays z t h.0, none_first z ts h.1)
 

@@ -1,10 +1,14 @@
 -- Each operator keeps what is apart from its paths; and only a $pop of the last element makes a mark of a cut array, whose other elements stay.
-use Rattle.std.proofs.Common.{◌≡◌, ◌≢◌, ℕ, zero, suc, ◌≤◌, ◌+◌, List, [], ◌∷◌, ◌++◌, length, Bool, true, false, refl, sym, ap, ◌∙◌, subst, arith, Option, Some, None, inl, inr}
-use Rattle.std.specs.Prelude.{⊤, ◌||◌, ◌⊎◌, ◌-◌, not, if◌then◌else◌, nat_lt}
+use Rattle.std.proofs.Common.{◌≡◌, ◌≢◌, ℕ, zero, suc, ◌≤◌, ◌+◌, List, [], ◌∷◌, ◌++◌, length, Bool, true, false, refl, sym, ap, ◌∙◌, subst, arith, lit<, Option, Some, None, inl, inr, ◌<◌}
+use Rattle.std.specs.Prelude.{⊤, ◌||◌, ◌⊎◌, ◌-◌, not, if◌then◌else◌, nat_lt, ◌==◌, ◌/◌, ◌%◌}
 use Rattle.std.specs.List.{list_any}
 use Rattle.std.proofs.lemmas.Grind.{common_steps}
 use Rattle.bson_value.specs.declared.value.Value.{Value, Value-F, Array, Null, out-Value, out-roll-Value}
-use Rattle.bson_value.specs.Digits.{index_of}
+use Rattle.bson_value.specs.Digits.{digits, digits_in, index_of}
+use Rattle.doc_path.specs.Paths.{dot}
+use Rattle.std.proofs.lemmas.Nat.{mod_below}
+use Rattle.std.proofs.lemmas.List.Elements.{All-nil, All-cons, All-append}
+use Rattle.update_model.proofs.Recording.{keys_more}
 use Rattle.bson_value.specs.Place.{Place, an_array, look, child, put, nth, at_index, sized}
 use Rattle.bson_value.proofs.Child.{array_shape, rolled_array, child_array}
 use Rattle.doc_path.specs.declared.parts.Part.{Part}
@@ -32,6 +36,7 @@ use Rattle.update_model.specs.Steps.{Trace, after, marks_of, mark, elements, pad
 use Rattle.update_model.specs.Acts.{Act, Steps, Refused, Oversized, is_far, made_at, changed_at, set, is_null, unset, counted_as, counted, count, goes_through_array, can_take, moved_to, moved, rename, grown, pushed_in, push, new_ones, shortened, popped, popped_in, pop, others, pulled_in, pull, act}
 use Rattle.update_model.proofs.MarkTheory.{In, in_append}
 use Rattle.update_model.proofs.ActSteps.{IsThere, IsMissing, Holds, located_holds, replaced_goes, removed_goes, cut_goes, appended_goes}
+use Rattle.update_replay.specs.Plain.{Undotted, PlainName, ArePlain, IsNamed}
 use Rattle.update_replay.proofs.Kept.{look_on, look_none, look_root, Kept, kept_none, kept_then, there_kept, grown_kept, added_kept, IsAt, is_at, WayEnd, way_end}
 
 -- ---- an array that was cut
@@ -117,7 +122,45 @@ cut_at ws p n c v vs path e h a l = subst (λ (z : Path). CutAt z v w) e (record
     below_old : (j : List ℕ) (r : Place) → look (Some v) ((keys ws ++ (k ∷ [])) ++ (j ∷ r)) ≡ look (Some c) (j ∷ r)
     below_old j r = ap (look (Some v)) (behind [] (j ∷ r)) ∙ old (j ∷ r)
 
+-- ---- names without dots
+
+pub plain_both : (p q : Place) → ArePlain p → ArePlain q → ArePlain (p ++ q)
+plain_both [] q a b = b
+plain_both (k ∷ p) q a b = (a.0, plain_both p q a.1 b)
+
+pub plain_front : (p q : Place) → ArePlain (p ++ q) → ArePlain p
+plain_front [] q a = tt
+plain_front (k ∷ p) q a = (a.0, plain_front p q a.1)
+
+pub plain_back : (p q : Place) → ArePlain (p ++ q) → ArePlain q
+plain_back [] q a = a
+plain_back (k ∷ p) q a = plain_back p q a.1
+
+no_dot : (d : ℕ) → d < 10 → ((48 + d) == dot) ≡ false
+no_dot d l = grind (arith, common_steps)
+
+plain_digits_in : (k n : ℕ) → PlainName (digits_in k n)
+unfolding digits_in
+plain_digits_in zero n = All-nil Undotted
+plain_digits_in (suc k) n = by (nat_lt n 10) refl (plain_digits_in k (n / 10))
+  where
+    by : (b : Bool) → nat_lt n 10 ≡ b → PlainName (digits_in k (n / 10)) → PlainName (if b then (48 + n) ∷ [] else digits_in k (n / 10) ++ ((48 + n % 10) ∷ []))
+    by true e later = All-cons Undotted (48 + n) [] (no_dot n (grind (arith, common_steps))) (All-nil Undotted)
+    by false e later = All-append Undotted (digits_in k (n / 10)) ((48 + n % 10) ∷ []) later (All-cons Undotted (48 + n % 10) [] (no_dot (n % 10) (mod_below n 10 (lit< tt))) (All-nil Undotted))
+
+pub plain_digits : (n : ℕ) → PlainName (digits n)
+unfolding digits
+plain_digits n = plain_digits_in (suc n) n
+
 -- ---- what steps at a path do
+
+-- of a mark: what is new is a field with a name, and its place has names without dots where P holds
+pub record IsMarked (P : Type 0) (m : Mark) : Type 0 where
+  pub fresh : m.made ≡ made.Fresh → IsNamed m.last
+  pub plain : P → ArePlain (keys m.way ++ (key_of m.last ∷ []))
+
+abbrev pub AllMarked : Type 0 → List Mark → Type 0
+AllMarked P ms = (m : Mark) → In m ms → IsMarked P m
 
 pub record IsCutBy (path : Path) (m : Mark) (v w : Value) : Type 0 where
   pub place : keys m.way ++ (key_of m.last ∷ []) ≡ path
@@ -126,6 +169,7 @@ pub record IsCutBy (path : Path) (m : Mark) (v w : Value) : Type 0 where
 pub record Does (path : Path) (v : Value) (ss : Trace) : Type 0 where
   pub keeps : (q : Place) → conflict path q ≡ false → Kept q v (after v ss)
   pub cuts : (m : Mark) → In m (marks_of ss) → m.made ≡ made.Cut → IsCutBy path m v (after v ss)
+  pub marked : AllMarked (ArePlain path) (marks_of ss)
 
 abbrev Acts : Path → Value → Act → Type 0
 Acts path v (Steps ss) = Does path v ss
@@ -133,7 +177,7 @@ Acts path v (Refused f) = ⊤
 Acts path v Oversized = ⊤
 
 nothing_done : (path : Path) (v : Value) → Does path v []
-nothing_done path v = record { keeps = λ q c. kept_none q v; cuts = λ m h e. absurd h }
+nothing_done path v = record { keeps = λ q c. kept_none q v; cuts = λ m h e. absurd h; marked = λ m h. absurd h }
 
 -- no mark is of a cut array
 abbrev pub NotCut : List Mark → Type 0
@@ -166,30 +210,80 @@ both_not_cut ms ns a b m h e = by (in_append ms ns m h)
     by (inl i) = a m i e
     by (inr i) = b m i e
 
+one_marked : (P : Type 0) (ws : List Part) (p : Part) (k : Made) → (k ≡ made.Fresh → IsNamed p) → (P → ArePlain (keys ws ++ (key_of p ∷ []))) → AllMarked P (mark ws p k ∷ [])
+one_marked P ws p k f h m (inl e) = subst (IsMarked P) (sym e) (record { fresh = f; plain = h })
+one_marked P ws p k f h m (inr g) = absurd g
+
+not_fresh : (p : Part) → made.Changed ≡ made.Fresh → IsNamed p
+not_fresh p e = absurd (no e)
+  where
+    no : made.Changed ≡ made.Fresh → ⊥
+    no f = cc
+
+not_new : (p : Part) → made.Cut ≡ made.Fresh → IsNamed p
+not_new p e = absurd (no e)
+  where
+    no : made.Cut ≡ made.Fresh → ⊥
+    no f = cc
+
+newly_named : (p : Part) → newly p ≡ made.Fresh → IsNamed p
+newly_named (name k) e = tt
+newly_named (index n) e = not_fresh (index n) e
+
+elements_marked : (P : Type 0) (us : List Part) (from n : ℕ) → (P → ArePlain (keys us)) → AllMarked P (elements us from n)
+elements_marked P us from zero h m i = absurd i
+elements_marked P us from (suc n) h m (inl e) = subst (IsMarked P) (sym e) (record { fresh = not_fresh (index from); plain = λ a. plain_both (keys us) (digits from ∷ []) (h a) (plain_digits from, tt) })
+elements_marked P us from (suc n) h m (inr i) = elements_marked P us (suc from) n h m i
+
+padding_marked : (P : Type 0) (ws : List Part) (p : Part) (n : ℕ) → (P → ArePlain (keys ws)) → AllMarked P (padding ws p n)
+padding_marked P ws (name k) n h m i = absurd i
+padding_marked P ws (index j) n h m i = elements_marked P ws n (j - n) h m i
+
+both_marked : (P : Type 0) (ms ns : List Mark) → AllMarked P ms → AllMarked P ns → AllMarked P (ms ++ ns)
+both_marked P ms ns a b m h = by (in_append ms ns m h)
+  where
+    by : In m ms ⊎ In m ns → IsMarked P m
+    by (inl i) = a m i
+    by (inr i) = b m i
+
+none_marked : (P : Type 0) → AllMarked P []
+none_marked P m h = absurd h
+
+added_marked : (P : Type 0) (ws : List Part) (p : Part) (n : ℕ) (ks : Path) → (P → ArePlain (keys ws ++ (key_of p ∷ ks))) → AllMarked P (padding ws p n ++ (mark ws p (newly p) ∷ []))
+added_marked P ws p n ks h =
+    both_marked P (padding ws p n) (mark ws p (newly p) ∷ []) (padding_marked P ws p n (λ a. plain_front (keys ws) (key_of p ∷ ks) (h a)))
+    (one_marked P ws p (newly p) (newly_named p) (λ a. plain_both (keys ws) (key_of p ∷ []) (plain_front (keys ws) (key_of p ∷ ks) (h a)) ((plain_back (keys ws) (key_of p ∷ ks) (h a)).0, tt)))
+
+at_path : (ws : List Part) (p : Part) (ks : Path) (path : Path) → keys ws ++ (key_of p ∷ ks) ≡ path → ArePlain path → ArePlain (keys ws ++ (key_of p ∷ ks))
+at_path ws p ks path e a = subst ArePlain (sym e) a
+
 -- a trace of one step
-one_does : (path : Path) (v w : Value) (ms : List Mark) → ((q : Place) → conflict path q ≡ false → Kept q v w) → NotCut ms → Does path v ((ms, w) ∷ [])
-one_does path v w ms k n = record { keeps = k; cuts = λ m h e. absurd (both_not_cut ms [] n (λ l i f. i) m h e) }
+one_does : (path : Path) (v w : Value) (ms : List Mark) → ((q : Place) → conflict path q ≡ false → Kept q v w) → NotCut ms → AllMarked (ArePlain path) ms → Does path v ((ms, w) ∷ [])
+one_does path v w ms k n a = record { keeps = k; cuts = λ m h e. absurd (both_not_cut ms [] n (λ l i f. i) m h e); marked = both_marked (ArePlain path) ms [] a (none_marked (ArePlain path)) }
 
 replaced_does : (ws : List Part) (p : Part) (c a v : Value) (path : Path) → keys ws ++ (key_of p ∷ []) ≡ path → Way V2 ws (IsThere p c) v → Does path v (replaced ws p a v)
 replaced_does ws p c a v path e h = one_does path v (putting ws p a v) (mark ws p made.Changed ∷ []) (λ q f. there_kept ws p made.Changed v _ path q e (replaced_goes ws p c a v h).0 f) (one_not_cut ws p made.Changed changed_not_cut)
+    (one_marked (ArePlain path) ws p made.Changed (not_fresh p) (at_path ws p [] path e))
 
 removed_does : (ws : List Part) (k : List ℕ) (c v : Value) (path : Path) → keys ws ++ (k ∷ []) ≡ path → Way V2 ws (IsThere (name k) c) v → Does path v (removed ws (name k) v)
 removed_does ws k c v path e h = one_does path v (changed V2 ws (name k) Delete v) (mark ws (name k) made.Changed ∷ []) (λ q f. there_kept ws (name k) made.Changed v _ path q e (removed_goes ws k c v h).0 f) (one_not_cut ws (name k) made.Changed changed_not_cut)
+    (one_marked (ArePlain path) ws (name k) made.Changed (not_fresh (name k)) (at_path ws (name k) [] path e))
 
 added_does : (ws : List Part) (p : Part) (n : ℕ) (ks : Path) (a v : Value) (path : Path) → keys ws ++ (key_of p ∷ ks) ≡ path → Way V2 ws (IsMissing p n) v → Does path v (added ws p n (build ks a) v)
 added_does ws p n ks a v path e h =
     one_does path v (putting ws p (build ks a) v) (padding ws p n ++ (mark ws p (newly p) ∷ [])) (λ q f. added_kept ws p n ks a v path q e h f)
-    (both_not_cut (padding ws p n) (mark ws p (newly p) ∷ []) (padding_not_cut ws p n) (one_not_cut ws p (newly p) (newly_not_cut p)))
+    (both_not_cut (padding ws p n) (mark ws p (newly p) ∷ []) (padding_not_cut ws p n) (one_not_cut ws p (newly p) (newly_not_cut p))) (added_marked (ArePlain path) ws p n ks (at_path ws p ks path e))
 
 appended_does : (ws : List Part) (p : Part) (is vs : List Value) (c v : Value) (path : Path) → keys ws ++ (key_of p ∷ []) ≡ path → out-Value c ≡ Value-F.Array is → length is + length vs ≤ limit → Way V2 ws (IsThere p c) v → Does path v (appended ws p is vs v)
 appended_does ws p is vs c v path e a l h =
     one_does path v (putting ws p (Array (is ++ vs)) v) (elements (ws ++ (p ∷ [])) (length is) (length vs)) (λ q f. grown_kept ws p (length is) (length vs) v _ path q e (appended_goes ws p is vs c v a l h).0 f)
-    (elements_not_cut (ws ++ (p ∷ [])) (length is) (length vs))
+    (elements_not_cut (ws ++ (p ∷ [])) (length is) (length vs)) (elements_marked (ArePlain path) (ws ++ (p ∷ [])) (length is) (length vs) (λ x. subst ArePlain (sym (keys_more ws p ∙ e)) x))
 
 cut_does : (ws : List Part) (p : Part) (n : ℕ) (c v : Value) (vs : List Value) (path : Path) → keys ws ++ (key_of p ∷ []) ≡ path → out-Value c ≡ Value-F.Array vs → n ≤ length vs → Way V2 ws (IsThere p c) v → Does path v (cut ws p n v)
 cut_does ws p n c v vs path e a l h = record {
   keeps = λ q f. there_kept ws p made.Cut v _ path q e (cut_goes ws p n c v h).0 f;
   cuts = λ m i f. by m i;
+  marked = both_marked (ArePlain path) (mark ws p made.Cut ∷ []) [] (one_marked (ArePlain path) ws p made.Cut (not_new p) (at_path ws p [] path e)) (none_marked (ArePlain path));
 }
   where
     by : (m : Mark) → In m (marks_of (cut ws p n v)) → IsCutBy path m v (after v (cut ws p n v))
@@ -299,6 +393,7 @@ pull_does a Blocked v path h e = tt
 pub record DoesBoth (from to : Path) (v : Value) (ss : Trace) : Type 0 where
   pub keeps : (q : Place) → conflict from q ≡ false → conflict to q ≡ false → Kept q v (after v ss)
   pub cuts : (m : Mark) → In m (marks_of ss) → m.made ≡ made.Cut → ⊥
+  pub marked : AllMarked (ArePlain from × ArePlain to) (marks_of ss)
 
 abbrev ActsBoth : Path → Path → Value → Act → Type 0
 ActsBoth from to v (Steps ss) = DoesBoth from to v ss
@@ -316,13 +411,18 @@ moved_not_cut (Missing ws p n ks) a v =
     both_not_cut (padding ws p n ++ (mark ws p (newly p) ∷ [])) [] (both_not_cut (padding ws p n) (mark ws p (newly p) ∷ []) (padding_not_cut ws p n) (one_not_cut ws p (newly p) (newly_not_cut p))) (λ m h e. h)
 moved_not_cut Blocked a v = λ m h e. h
 
+moved_marked : (P : Type 0) (l : Located) (a v : Value) (to : Path) → IsAt to l → (P → ArePlain to) → AllMarked P (marks_of (moved_to l a v))
+moved_marked P (There ws p c) a v to e h = both_marked P (mark ws p made.Changed ∷ []) [] (one_marked P ws p made.Changed (not_fresh p) (λ x. at_path ws p [] to e (h x))) (none_marked P)
+moved_marked P (Missing ws p n ks) a v to e h = both_marked P (padding ws p n ++ (mark ws p (newly p) ∷ [])) [] (added_marked P ws p n ks (λ x. at_path ws p ks to e (h x))) (none_marked P)
+moved_marked P Blocked a v to e h = none_marked P
+
 no_index_last : (ws : List Part) (i : ℕ) → goes_through_array ws (index i) ≡ true
 no_index_last [] i = refl
 no_index_last (name k ∷ ws) i = no_index_last ws i
 no_index_last (index j ∷ ws) i = refl
 
 nothing_both : (from to : Path) (v : Value) → DoesBoth from to v []
-nothing_both from to v = record { keeps = λ q c d. kept_none q v; cuts = λ m h e. h }
+nothing_both from to v = record { keeps = λ q c d. kept_none q v; cuts = λ m h e. h; marked = λ m h. absurd h }
 
 rename_does : (l : Located) (from to : Path) (v : Value) → Holds v l → IsAt from l → ActsBoth from to v (rename l to v)
 rename_does (There ws (name k) c) from to v h e = by (goes_through_array ws (name k) || not (can_take (located to v)))
@@ -335,6 +435,8 @@ rename_does (There ws (name k) c) from to v h e = by (goes_through_array ws (nam
     by false = record {
       keeps = λ q f g. kept_then q v w _ ((removed_does ws k c v from e h).keeps q f) (moved_keeps (located to w) c w to q (located_holds to w) (is_at to w) g);
       cuts = both_not_cut (mark ws (name k) made.Changed ∷ []) (marks_of (moved_to (located to w) c w)) (one_not_cut ws (name k) made.Changed changed_not_cut) (moved_not_cut (located to w) c w);
+      marked = both_marked (ArePlain from × ArePlain to) (mark ws (name k) made.Changed ∷ []) (marks_of (moved_to (located to w) c w))
+          (one_marked (ArePlain from × ArePlain to) ws (name k) made.Changed (not_fresh (name k)) (λ x. at_path ws (name k) [] from e x.0)) (moved_marked (ArePlain from × ArePlain to) (located to w) c w to (is_at to w) (λ x. x.1));
     }
 rename_does (There ws (index i) c) from to v h e = rw (no_index_last ws i) tt
 rename_does (Missing ws p n ks) from to v h e = nothing_both from to v

@@ -4,6 +4,8 @@ use Rattle.bson_value.specs.declared.value.Value.{Value}
 use Rattle.bson_value.specs.Digits.{digits}
 use Rattle.doc_path.specs.declared.parts.Part.{Part}
 use Rattle.doc_path.specs.declared.parts.Part.TheVariants.{Name as name, Index as index}
+use Rattle.doc_path.specs.declared.parts.Form.{Form}
+use Rattle.doc_path.specs.declared.parts.Form.TheVariants.{V1, V2}
 use Rattle.doc_path.specs.declared.touches.Touch.{Touch}
 use Rattle.doc_path.specs.declared.touches.Touch.TheVariants.{Set as Sets, Unset as Unsets, Resize as Resizes}
 use Rattle.doc_path.specs.Touch.{Touch as Played, Set, Unset, Resize}
@@ -31,3 +33,8 @@ abbrev pub first_form : Value → Touch → Touch
 first_form z (Sets place a fresh) = Sets (as_names place) a false
 first_form z (Unsets place) = Unsets (as_names place)
 first_form z (Resizes place n) = set_or_length (as_names place) n (value_in place z)
+
+-- the touches of an update in a form
+abbrev pub in_form : Form → Value → List Touch → List Touch
+in_form V1 z ts = map (first_form z) ts
+in_form V2 z ts = ts

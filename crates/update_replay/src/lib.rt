@@ -4,4 +4,4 @@
 
 mod laws;
 
-pub use laws::{first_form_is_replayed, names_record, second_form_is_replayed};
+pub use laws::{first_form_is_replayed, names_record, second_form_is_replayed, touches_are_plain};

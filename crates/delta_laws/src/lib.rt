@@ -1,0 +1,7 @@
+//! What is written of an accepted update is read again. Laws alone: each function does nothing, and its caller learns the
+//! law.
+#![tactic(auto)]
+
+mod laws;
+
+pub use laws::delta_is_read;
