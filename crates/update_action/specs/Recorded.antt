@@ -1,12 +1,11 @@
 -- The action that records an update: a delta of its touches, or the whole document where the delta is longer.
-use Rattle.std.specs.Prelude.{ℕ, suc, List, length, map, false, Option, Some, None, Result, Ok, Err, if◌then◌else◌, nat_lt}
+use Rattle.std.specs.Prelude.{ℕ, suc, List, length, false, Option, Some, None, Result, Ok, Err, if◌then◌else◌, nat_lt}
 use Rattle.bson_value.specs.declared.value.Value.{Value, Object}
 use Rattle.bson_value.specs.Spelling.{document_text}
 use Rattle.bson_check.specs.declared.fault.BsonFault.{BsonFault}
 use Rattle.bson_check.specs.Reading.{document_of}
 use Rattle.doc_path.specs.declared.parts.Part.{Part}
 use Rattle.doc_path.specs.declared.parts.Form.{Form}
-use Rattle.doc_path.specs.declared.parts.Form.TheVariants.{V1, V2}
 use Rattle.doc_path.specs.declared.touches.Touch.{Touch}
 use Rattle.doc_path.specs.declared.touches.Touch.TheVariants.{Set, Unset, Resize}
 use Rattle.doc_path.specs.Ways.{value_in}

@@ -1,4 +1,4 @@
-use Rattle.std.proofs.Common.{◌≡◌, false, sym, ap, ◌∙◌}
+use Rattle.std.proofs.Common.{false, sym, ap, ◌∙◌}
 use Rattle.std.specs.Option.{option_copied}
 use Rattle.doc_path.specs.declared.touches.Touch.TheVariants.{Set, Resize}
 use Rattle.update_action.specs.Recorded.{set_or_length}
