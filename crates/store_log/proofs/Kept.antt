@@ -1,9 +1,9 @@
 -- What holds of a log holds with one entry more.
-use Rattle.std.proofs.Common.{◌≡◌, ℕ, suc, ◌+◌, ◌≤◌, ◌<◌, true, false, List, refl, sym, subst, arith, inl, inr}
+use Rattle.std.proofs.Common.{◌≡◌, ℕ, ◌+◌, ◌≤◌, true, false, List, sym, subst, arith, inl, inr}
 use Rattle.std.specs.Prelude.{◌⊎◌, nat_lt}
 use Rattle.std.proofs.lemmas.Bool.{cases_Bool}
 use Rattle.bson_value.specs.declared.value.Ts.{Ts}
-use Rattle.capped_oplog.specs.Ring.{Ring, Fits}
+use Rattle.capped_oplog.specs.Ring.{Ring}
 use Rattle.store_log.specs.Logged.{next_ts, with_entry, IsKept}
 use Rattle.store_log.proofs.Pushes.{one_push, new_stands}
 

@@ -1,8 +1,7 @@
 -- One entry more in a ring that has what the caps allow.
-use Rattle.std.proofs.Common.{◌≡◌, ℕ, ◌+◌, ◌<◌, ◌≤◌, true, false, List, [], ◌∷◌, ◌++◌, length, refl, sym, ap, ◌∙◌, subst, arith, length-append}
+use Rattle.std.proofs.Common.{◌≡◌, ℕ, ◌<◌, ◌≤◌, List, [], ◌∷◌, ◌++◌, length, refl, sym, ap, ◌∙◌, subst, arith, length-append}
 use Rattle.std.specs.Prelude.{Option}
-use Rattle.bson_value.specs.declared.value.Ts.{Ts}
-use Rattle.capped_oplog.specs.Ring.{Entry, is_over, pushed, trimmed_down, after_pushes, Fits, IsSuffix, IsLongest}
+use Rattle.capped_oplog.specs.Ring.{Entry, pushed, trimmed_down, after_pushes, Fits, IsSuffix, IsLongest}
 use Rattle.capped_oplog.proofs.Longest.{keeps_longest}
 use Rattle.store_log.specs.Logged.{IsLast}
 

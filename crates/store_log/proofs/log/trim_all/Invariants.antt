@@ -1,4 +1,4 @@
-use Rattle.std.proofs.Common.{◌≡◌, ℕ, length}
+use Rattle.std.proofs.Common.{◌≡◌, length}
 use Rattle.capped_oplog.specs.Ring.{trimmed_down}
 use Rattle.store_log.proofs.log.trim_all.Given as goal
 
