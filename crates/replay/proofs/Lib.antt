@@ -1,0 +1,6 @@
+pub mod Ids
+pub mod States
+pub mod Made
+pub mod Calls
+pub mod Folds
+pub mod Faults

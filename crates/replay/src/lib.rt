@@ -1,0 +1,15 @@
+//! Entries of the oplog, replayed on the collections of a server.
+#![tactic(auto)]
+
+mod actions;
+mod counting;
+mod fault;
+mod indexes;
+mod laws;
+mod playing;
+mod refusals;
+
+pub use counting::item_count;
+pub use fault::ReplayFault;
+pub use laws::made_steps;
+pub use playing::replay;
