@@ -1,6 +1,6 @@
 -- Pieces that were written one after the other.
 use Rattle.std.proofs.Common.{ℕ, ◌+◌, List, [], ◌++◌, length, take, refl, sym, subst, ◌∙◌, arith, inl, inr}
-use Rattle.std.specs.Prelude.{Option}
+use Rattle.std.specs.Prelude.{Option, Result, Ok, Err, OnOk, OnErr}
 use Rattle.std.specs.Io.KnownBytes.{Appends}
 use Rattle.std.proofs.KnownBytes.{Appends-trans, Appends-nil}
 use Rattle.std.proofs.lemmas.Bool.{cases_lt}
@@ -36,3 +36,11 @@ left_none before now text h = h.whole now (Appends-nil now)
 
 pub left_stop : (before now after : Option (List ℕ)) (text piece rest : List ℕ) → Left before now text (piece ++ rest) → AppendsFront now after piece → AppendsFront before after text
 left_stop before now after text piece rest h w = h.front after (front_within now after piece rest w)
+
+pub on_ok : {A B P Q : Type 0} (r : Result A B) → (P → Q) → OnOk r P → OnOk r Q
+on_ok (Ok a) f p = f p
+on_ok (Err e) f p = tt
+
+pub on_err : {A B P Q : Type 0} (r : Result A B) → (P → Q) → OnErr r P → OnErr r Q
+on_err (Ok a) f p = tt
+on_err (Err e) f p = f p

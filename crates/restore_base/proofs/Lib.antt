@@ -1,6 +1,5 @@
 pub mod Outcomes
-mod Maps
 mod Fronts
 mod Texts
-mod Sound
-mod Counts
+mod Steps
+mod Definitions

@@ -1,27 +1,23 @@
 -- The outcome of an input: there is one, and what a run tells shows it.
-use Rattle.std.proofs.Common.{◌≡◌, ℕ, Bool, true, false, List, [], ◌∷◌, ◌++◌, take, length, ◌≤◌, arith, refl, sym, ap, subst, ◌∙◌, cond, append_assoc}
-use Rattle.std.specs.Prelude.{Option, Some, None, IsSome, nat_lt, filter, fold, not, ◌||◌, ◌&&◌, ◌==◌, bytes_eq}
-use Rattle.std.proofs.lemmas.List.{map-append, append-nil}
+use Rattle.std.proofs.Common.{◌≡◌, ℕ, Bool, true, false, List, [], ◌∷◌, ◌++◌, take, length, ◌≤◌, arith, refl, sym, ap, subst, ◌∙◌, cond}
+use Rattle.std.specs.Prelude.{Option, Some, None, IsSome, nat_lt, filter, fold, ◌&&◌, ◌==◌, bytes_eq}
 use Rattle.std.specs.Cmp.{unsigned_Decides}
-use Rattle.metadata_text.specs.Metadata.{metadata_of}
 use Rattle.std.proofs.lemmas.Slice.Eq.{bytes_eq-Decides}
 use Rattle.bson_value.specs.declared.namespace.NsName.{NsName}
 use Rattle.archive_format.specs.declared.fault.FormatFault.{FormatFault}
-use Rattle.archive_format.specs.Shapes.{is_oplog}
-use Rattle.archive_format.specs.Archive.{Taking, meta, doc, end, start, limit, EndsOf, Content, same_ns}
+use Rattle.archive_format.specs.Archive.{Taking, start, limit, EndsOf, Content, same_ns}
 use Rattle.archive_format.proofs.Fold.{clean_none, ends_total, ends_unique, content_ends, ends_content}
 use Rattle.demux.specs.declared.fault.DemuxFault.TheVariants as faults
 use Rattle.tool_io.specs.Causes.{Rose}
 use Rattle.demux.specs.Told.{Reach, Whole, Wrong, Stop as Stopped, Fault_told, End_told}
-use Rattle.restore_base.specs.declared.collections.Kept.{Kept}
-use Rattle.restore_base.specs.Kept.{taking_of, takings_in}
-use Rattle.restore_base.specs.Taken.{and_taking, count_of}
+use Rattle.restore_base.specs.Taken.{and_taking, with_taking, unless_stopped, count_of}
 use Rattle.restore_base.specs.declared.collections.Stop.{Stop}
 use Rattle.restore_base.specs.declared.collections.Stop.TheVariants.{NoId, Metadata}
-use Rattle.restore_base.specs.Base.{is_of_collection, base, restored, metadata_stop, stop_at, or_later, first_stop, same_stop}
+use Rattle.restore_base.specs.Base.{is_of_collection, base_step, restored, stop_at, or_later, first_stop, same_stop}
 use Rattle.index_build.specs.declared.fault.CountFault.{CountFault}
-use Rattle.state_listing.specs.Listing.{State}
-use Rattle.restore_base.specs.Indexes.{index_fault}
+use Rattle.std.specs.FinMap as map
+use Rattle.state_model.specs.States.{State}
+use Rattle.index_build.specs.Faults.{fault as index_fault}
 use Rattle.restore_base.specs.Outcome.{Outcome, restores, refuses, stops, fails, RestoresTo, IsOutcome, IsReadTo, IsRefused, IsUnsettled, OnInput}
 
 -- ---- one outcome
@@ -105,31 +101,7 @@ outcome_total bytes =
     let k = ends_total start 0 (take limit bytes) (nat_lt limit (length bytes)) in
     by_end bytes k.takings k.fault (first_stop k.takings) refl k.ends
 
--- ---- what isn't of a collection is never refused
-
-or_true : (b c : Bool) → not b ≡ false → (b || c) ≡ true
-or_true true c e = refl
-or_true false c e = cc
-
-passed : (b c : Bool) (s : Stop) → not b ≡ false → cond (b || c) None (Some s) ≡ None
-passed b c s e = rw (or_true b c e) refl
-
-passed_over : (b : Bool) (s : Option Stop) → not b ≡ false → cond b None s ≡ None
-passed_over true s e = refl
-passed_over false s e = cc
-
-oplog_taken : (t : Taking) → is_of_collection t ≡ false → stop_at t ≡ None
-oplog_taken (meta n x) e = passed_over (is_oplog n) (metadata_stop n (metadata_of x)) e
-oplog_taken (doc n b) e = passed (is_oplog n) _ (NoId n) e
-oplog_taken (end n) e = refl
-
-filtered : (b : Bool) (t : Taking) (ts us : List Taking) → (b ≡ false → stop_at t ≡ None) → first_stop us ≡ first_stop ts → first_stop (cond b (t ∷ us) us) ≡ first_stop (t ∷ ts)
-filtered true t ts us h e = ap (or_later (stop_at t)) e
-filtered false t ts us h e = e ∙ ap (λ o. or_later o (first_stop ts)) (sym (h refl))
-
-first_stop-filter : (ts : List Taking) → first_stop (filter is_of_collection ts) ≡ first_stop ts
-first_stop-filter [] = refl
-first_stop-filter (t ∷ ts) = filtered (is_of_collection t) t ts (filter is_of_collection ts) (oplog_taken t) (first_stop-filter ts)
+-- ---- what is behind others
 
 behind : (o : Option Stop) (ts us : List Taking) → (first_stop ts ≡ None → first_stop (ts ++ us) ≡ first_stop us) → or_later o (first_stop ts) ≡ None → or_later o (first_stop (ts ++ us)) ≡ first_stop us
 behind None ts us h e = h e
@@ -163,54 +135,69 @@ one_reason (Metadata n a) None e = cc
 
 -- ---- what a run tells
 
-one_added : (b : Bool) (ts us : List Taking) (t : Taking) → cond b (ts ++ t ∷ []) ts ++ us ≡ ts ++ cond b (t ∷ us) us
-one_added true ts us t = append_assoc ts (t ∷ []) us
-one_added false ts us t = refl
+none_taken : (given : List Taking) → fold and_taking None given ≡ None
+none_taken [] = refl
+none_taken (t ∷ given) = none_taken given
 
--- what was added are the takings of collections
-added : (ts given : List Taking) → fold and_taking ts given ≡ ts ++ filter is_of_collection given
-added ts [] = sym (append-nil ts)
-added ts (t ∷ given) = added (and_taking ts t) given ∙ one_added (is_of_collection t) ts (filter is_of_collection given) t
+-- a state that was made of what was given: none of it was refused
+pub record Made (s0 s : State) (given : List Taking) : Type 0 where
+  pub fine : first_stop given ≡ None
+  pub is : s ≡ fold base_step s0 (filter is_of_collection given)
 
-module _ (c0 c : List Taking) (begins : c0 ≡ []) (fine : first_stop c ≡ None) where
-  kept : (given : List Taking) → c ≡ fold and_taking c0 given → c ≡ filter is_of_collection given
-  kept given e = e ∙ (added c0 given ∙ ap (λ z. z ++ filter is_of_collection given) begins)
+stepped : (b : Bool) (t : Taking) (s0 : State) (ts : List Taking) → fold base_step (cond b (base_step s0 t) s0) ts ≡ fold base_step s0 (cond b (t ∷ ts) ts)
+stepped true t s0 ts = refl
+stepped false t s0 ts = refl
 
-  taken : (given : List Taking) → c ≡ fold and_taking c0 given → first_stop given ≡ None
-  taken given e = sym (first_stop-filter given) ∙ (ap first_stop (sym (kept given e)) ∙ fine)
+pub made_of : (given : List Taking) (s0 s : State) → Some s ≡ fold and_taking (Some s0) given → Made s0 s given
+made_of [] s0 s e = record { fine = refl; is = cc }
+made_of (t ∷ given) s0 s e = go (stop_at t) refl (λ s1 f. made_of given s1 s f)
+  where
+    go : (o : Option Stop) → stop_at t ≡ o → ((s1 : State) → Some s ≡ fold and_taking (Some s1) given → Made s1 s given) → Made s0 s (t ∷ given)
+    go None is on =
+        let later = on (with_taking s0 t) (e ∙ ap (λ o. fold and_taking (unless_stopped o (with_taking s0 t)) given) is) in
+        record { fine = ap (λ o. or_later o (first_stop given)) is ∙ later.fine; is = later.is ∙ stepped (is_of_collection t) t s0 (filter is_of_collection given) }
+    go (Some r) is on =
+        let none : Some s ≡ None = e ∙ (ap (λ o. fold and_taking (unless_stopped o (with_taking s0 t)) given) is ∙ none_taken given) in absurd cc
 
-  pub restores_all : (all : List ℕ) → Whole all None and_taking (Some c0) (Some c) → RestoresTo all (base c)
-  restores_all all w = (w.given, ends_content all w.given w.ends, taken w.given w.took, ap base (kept w.given w.took))
+module _ (c0 c : State) (begins : c0 ≡ map.empty) where
+  kept : (given : List Taking) → Some c ≡ fold and_taking (Some c0) given → c ≡ restored given
+  kept given e = (made_of given c0 c e).is ∙ ap (λ s. fold base_step s (filter is_of_collection given)) begins
+
+  taken : (given : List Taking) → Some c ≡ fold and_taking (Some c0) given → first_stop given ≡ None
+  taken given e = (made_of given c0 c e).fine
+
+  pub restores_all : (all : List ℕ) → Whole all None and_taking (Some (Some c0)) (Some (Some c)) → RestoresTo all c
+  restores_all all w = (w.given, ends_content all w.given w.ends, taken w.given w.took, kept w.given w.took)
 
   -- what was given is of the front, and none of it is refused
-  abbrev read_to : (all : List ℕ) (now : Option (List ℕ)) (given : List Taking) → c ≡ fold and_taking c0 given → Reach all now given → IsReadTo all now
+  abbrev read_to : (all : List ℕ) (now : Option (List ℕ)) (given : List Taking) → Some c ≡ fold and_taking (Some c0) given → Reach all now given → IsReadTo all now
   read_to all now given took reach = record { given = given; fine = taken given took; reach = reach }
 
-  pub refuses_all : (all : List ℕ) (now : Option (List ℕ)) (f : FormatFault) → Wrong all now f and_taking (Some c0) (Some c) → IsRefused all now (refuses f)
+  pub refuses_all : (all : List ℕ) (now : Option (List ℕ)) (f : FormatFault) → Wrong all now f and_taking (Some (Some c0)) (Some (Some c)) → IsRefused all now (refuses f)
   refuses_all all now f w = (read_to all now w.whole.given w.whole.took w.reach, w.whole.ends)
 
-  pub stops_all : (all : List ℕ) (now : Option (List ℕ)) (s : Stop) (o : Option Stop) → o ≡ Some s → Stopped all now and_taking (Some c0) (Some c) (λ t. same_stop o (stop_at t)) → IsRefused all now (stops s)
+  pub stops_all : (all : List ℕ) (now : Option (List ℕ)) (s : Stop) (o : Option Stop) → o ≡ Some s → Stopped all now and_taking (Some (Some c0)) (Some (Some c)) (λ t. same_stop o (stop_at t)) → IsRefused all now (stops s)
   stops_all all now s o is w =
       let told : same_stop (Some s) (stop_at w.refused) ≡ true = subst (λ x. same_stop x (stop_at w.refused) ≡ true) is w.told in
       (read_to all now w.given w.took w.reach, (w.refused, w.more, w.fault, w.ends, one_reason s (stop_at w.refused) told))
 
-  pub told_format : (first now : Option (List ℕ)) (f : FormatFault) (why : Taking → Bool) (rose : Type 0) → Fault_told (faults.Format f) first now and_taking (Some c0) (Some c) why rose → OnInput first (λ all. IsRefused all now (refuses f))
+  pub told_format : (first now : Option (List ℕ)) (f : FormatFault) (why : Taking → Bool) (rose : Type 0) → Fault_told (faults.Format f) first now and_taking (Some (Some c0)) (Some (Some c)) why rose → OnInput first (λ all. IsRefused all now (refuses f))
   told_format None now f why rose w = tt
   told_format (Some all) now f why rose w = refuses_all all now f w
 
-  pub told_restored : (first now : Option (List ℕ)) → End_told first now and_taking (Some c0) (Some c) → OnInput first (λ all. (now ≡ Some []) × RestoresTo all (base c))
+  pub told_restored : (first now : Option (List ℕ)) → End_told first now and_taking (Some (Some c0)) (Some (Some c)) → OnInput first (λ all. (now ≡ Some []) × RestoresTo all c)
   told_restored None now w = tt
   told_restored (Some all) now w = (w.0, restores_all all w.1)
 
-  pub told_stopped : (first now : Option (List ℕ)) (s : Stop) (o : Option Stop) (rose : Type 0) → o ≡ Some s → Fault_told faults.Stopped first now and_taking (Some c0) (Some c) (λ t. same_stop o (stop_at t)) rose → OnInput first (λ all. IsRefused all now (stops s))
+  pub told_stopped : (first now : Option (List ℕ)) (s : Stop) (o : Option Stop) (rose : Type 0) → o ≡ Some s → Fault_told faults.Stopped first now and_taking (Some (Some c0)) (Some (Some c)) (λ t. same_stop o (stop_at t)) rose → OnInput first (λ all. IsRefused all now (stops s))
   told_stopped None now s o rose is w = tt
   told_stopped (Some all) now s o rose is w = stops_all all now s o is w
 
-  pub told_unsettled : (first now : Option (List ℕ)) (why : Taking → Bool) (rose : Type 0) → Fault_told faults.ReadFault first now and_taking (Some c0) (Some c) why rose → OnInput first (λ all. IsUnsettled all now)
+  pub told_unsettled : (first now : Option (List ℕ)) (why : Taking → Bool) (rose : Type 0) → Fault_told faults.ReadFault first now and_taking (Some (Some c0)) (Some (Some c)) why rose → OnInput first (λ all. IsUnsettled all now)
   told_unsettled None now why rose w = tt
   told_unsettled (Some all) now why rose w = (read_to all now w.part.given w.part.took w.part.reach, w.held, w.left, w.now_left, w.is_rest, w.unsettled)
 
-  pub told_starved : (first now : Option (List ℕ)) (why : Taking → Bool) (rose : Type 0) → Fault_told faults.NoMemory first now and_taking (Some c0) (Some c) why rose → OnInput first (λ all. IsReadTo all now)
+  pub told_starved : (first now : Option (List ℕ)) (why : Taking → Bool) (rose : Type 0) → Fault_told faults.NoMemory first now and_taking (Some (Some c0)) (Some (Some c)) why rose → OnInput first (λ all. IsReadTo all now)
   told_starved None now why rose w = tt
   told_starved (Some all) now why rose w = read_to all now w.part.given w.part.took w.part.reach
 
@@ -230,8 +217,3 @@ refused_once bytes now (stops s) r =
 pub has_stopped : (o : Option Stop) → Rose 0 (count_of o) → IsSome o
 has_stopped None r = absurd (let one : 1 ≤ 0 = r in omega (arith, one))
 has_stopped (Some s) r = refl
-
--- one more taking that is none to stop at
-pub kept_more : (ks : List Kept) (k : Kept) → first_stop (takings_in ks) ≡ None → stop_at (taking_of k) ≡ None → first_stop (takings_in (ks ++ k ∷ [])) ≡ None
-kept_more ks k e n =
-    ap first_stop (map-append taking_of ks (k ∷ [])) ∙ (first_stop-append (takings_in ks) (taking_of k ∷ []) e ∙ ap (λ o. or_later o None) n)

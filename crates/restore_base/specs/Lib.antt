@@ -1,7 +1,5 @@
 pub mod Base
-pub mod Kept
-pub mod Gathered
 pub mod Taken
-pub mod Indexes
-pub mod Numbers
+pub mod Listed
 pub mod Outcome
+pub mod Laws

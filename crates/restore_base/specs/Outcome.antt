@@ -3,11 +3,11 @@ use Rattle.std.specs.Prelude.{⊤, ◌≡◌, ℕ, List, ◌∷◌, ◌++◌, Op
 use Rattle.archive_format.specs.declared.fault.FormatFault.{FormatFault}
 use Rattle.archive_format.specs.Archive.{Taking, Content, EndsOf, next, short}
 use Rattle.demux.specs.Told.{Reach}
-use Rattle.state_listing.specs.Listing.{State}
+use Rattle.state_model.specs.States.{State}
 use Rattle.index_build.specs.declared.fault.CountFault.{CountFault}
+use Rattle.index_build.specs.Faults.{fault}
 use Rattle.restore_base.specs.declared.collections.Stop.{Stop}
 use Rattle.restore_base.specs.Base.{restored, first_stop, stop_at}
-use Rattle.restore_base.specs.Indexes.{index_fault}
 
 pub data Outcome : Type 0 where
   restores : State → Outcome
@@ -21,8 +21,8 @@ RestoresTo bytes s = (ts : List Taking) × Content bytes ts × (first_stop ts �
 
 -- such a state, whose indexes can be built or can't; a fault of the format behind a clean front of such takings; or the first taking that is refused
 abbrev pub IsOutcome : List ℕ → Outcome → Type 0
-IsOutcome bytes (restores s) = RestoresTo bytes s × (index_fault s ≡ None)
-IsOutcome bytes (fails f) = (s : State) × RestoresTo bytes s × (index_fault s ≡ Some f)
+IsOutcome bytes (restores s) = RestoresTo bytes s × (fault s ≡ None)
+IsOutcome bytes (fails f) = (s : State) × RestoresTo bytes s × (fault s ≡ Some f)
 IsOutcome bytes (refuses f) = (ts : List Taking) × EndsOf bytes ts (Some f) × (first_stop ts ≡ None)
 IsOutcome bytes (stops s) = (ts : List Taking) × (e : Option FormatFault) × EndsOf bytes ts e × (first_stop ts ≡ Some s)
 

@@ -1,18 +1,28 @@
--- What a restore has taken so far.
-use Rattle.std.specs.Prelude.{ℕ, List, [], ◌∷◌, ◌++◌, Option, Some, None, if◌then◌else◌}
+-- What a restore makes of its takings, as it takes them.
+use Rattle.std.specs.Prelude.{ℕ, Option, Some, None, if◌then◌else◌}
 use Rattle.archive_format.specs.Archive.{Taking}
+use Rattle.state_model.specs.States.{State}
+use Rattle.coll_state.specs.Rows.{state_of}
 use Rattle.restore_base.specs.declared.collections.Stop.{Stop}
 use Rattle.restore_base.specs.declared.collections.Collections.{Collections}
-use Rattle.restore_base.specs.Base.{is_of_collection}
-use Rattle.restore_base.specs.Kept.{takings_in}
+use Rattle.restore_base.specs.Base.{is_of_collection, stop_at, base_step}
 
--- the takings, in order
-abbrev pub takings_of : Collections → List Taking
-takings_of c = takings_in c.takings.items
+-- the state so far
+abbrev pub state_in : Collections → State
+state_in c = state_of c.state
 
--- one taking more, unless it is of the oplog
-abbrev pub and_taking : List Taking → Taking → List Taking
-and_taking ts t = if is_of_collection t then ts ++ t ∷ [] else ts
+-- with one taking more, unless it is of the oplog
+abbrev pub with_taking : State → Taking → State
+with_taking s t = if is_of_collection t then base_step s t else s
+
+abbrev pub unless_stopped : Option Stop → State → Option State
+unless_stopped None s = Some s
+unless_stopped (Some r) s = None
+
+-- no state once a taking was refused
+abbrev pub and_taking : Option State → Taking → Option State
+and_taking None t = None
+and_taking (Some s) t = unless_stopped (stop_at t) (with_taking s t)
 
 abbrev pub count_of : Option Stop → ℕ
 count_of None = 0

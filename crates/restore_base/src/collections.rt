@@ -1,18 +1,22 @@
-//! The takings of an archive that make collections.
-ghost use Rattle.std.specs.Prelude.{◌≡◌, ◌++◌, ◌∷◌, [], OnOk, OnErr, IfOk, IfErr, IsOk, IsTrue, Some, None, true};
-ghost use Rattle.archive_format.specs.Archive.{meta, doc, end, fault_in};
-ghost use Rattle.std.specs.Result.{ForOk};
-ghost use Rattle.restore_base.specs.Base.{first_stop, stop_at, ns_of};
-ghost use Rattle.restore_base.specs.Kept.{taking_of, takings_in, is_sound, are_sound};
+//! The state that the takings of an archive make.
+ghost use Rattle.std.specs.Prelude.{◌≡◌, ◌<◌, ◌^◌, IfOk, IfErr, OnOk, OnErr, IsOk, IsErr, Some, None, true};
+ghost use Rattle.std.specs.FinMap as map;
+ghost use Rattle.state_model.specs.States.{or_fresh};
+ghost use Rattle.coll_state.specs.Rows.{state_of};
+ghost use Rattle.archive_format.specs.Archive.{doc, end, fault_in};
+ghost use Rattle.restore_base.specs.Base.{base_step, described_in, document_taken, has_id, normal_forms};
+ghost use Rattle.restore_base.specs.Taken.{state_in, stops_of, starved_of};
 
-use crate::id::has_id;
-use crate::names::Names;
 use archive_format::is_oplog;
-use bson_value::{Bytes, NsName, Text};
+use bson_value::NsName;
+use bson_view::{DocumentBytes, View};
+use coll_state::{COUNT_LIMIT, State, changes_are_moves};
+use containers::List as JList;
 use demux::{DocTaker, Halt};
+use index_keys::normal;
+use json_tree::{Fields, Tree};
 use metadata_text::{MetaFault, metadata_of};
 use std::alloc::{AllocError, Global};
-use std::rc::Rc;
 
 /// Why a taking isn't taken.
 #[derive(Debug, Drop)]
@@ -23,61 +27,108 @@ pub enum Stop {
     Metadata { ns: NsName, at: usize },
 }
 
-#[derive(Drop)]
-pub enum Kept {
-    Meta(Rc<NsName>, Text),
-    Doc(Rc<NsName>, Bytes),
-    End(Rc<NsName>),
+// Whether the document has an `_id`.
+#[tactic(auto, unfolding(archive_format::specs::Archive::fault_in, archive_format::specs::Archive::fields_of, bson_check::specs::Faults::first_fault))]
+fn has_id(bytes: &[u8]) -> bool
+    requires { fault_in bytes.now ≡ None }
+    ensures { result ≡ has_id (document_taken bytes.now) }
+{
+    View::of(bytes).field("_id").is_some()
 }
 
-impl Kept {
-    /// Its namespace.
-    pub fn ns(&self) -> &NsName
-        ensures { result.now ≡ ns_of (taking_of self.now) }
-    {
-        match self {
-            Kept::Meta(ns, _) => ns,
-            Kept::Doc(ns, _) => ns,
-            Kept::End(ns) => ns,
+// The normal forms of definitions.
+fn normal_forms(alloc: Global, defs: &[Tree]) -> Result<Vec<Tree>, AllocError>
+    ensures { IfOk result (λ v. v.items ≡ normal_forms defs.now) }
+{
+    let mut forms = Vec::new(alloc);
+    let mut left = defs;
+    while let Some((def, rest)) = left.split_first() {
+        if let Some(form) = normal(alloc, def)? {
+            forms.push(form)?;
         }
+        left = rest;
     }
+    Ok(forms)
 }
 
-/// Keeps the takings that make collections, in order, and stops at the first that it refuses.
+// The document in its place, over one with the same `_id`.
+#[tactic(auto, unfolding(archive_format::specs::Archive::fault_in, archive_format::specs::Archive::fields_of, bson_check::specs::Faults::first_fault))]
+fn put(alloc: Global, state: &mut State, ns: &NsName, bytes: &[u8]) -> Result<(), AllocError>
+    requires document { fault_in bytes.now ≡ None }
+    requires id { has_id (document_taken bytes.now) ≡ true }
+    ensures ok { OnOk result (state_of state.new ≡ base_step (state_of state.old) (doc ns.now bytes.now)) }
+    ensures err { OnErr result (state.new ≡ state.old) }
+{
+    changes_are_moves();
+    if state.count() >= COUNT_LIMIT {
+        return Err(AllocError);
+    }
+    let document = DocumentBytes::of(alloc, bytes)?;
+    state.put_bytes(alloc, ns, document)
+}
+
+// The options and the definitions, in the place of those that are there.
+fn describe(
+    alloc: Global,
+    state: &mut State,
+    ns: &NsName,
+    options: Tree,
+    definitions: &[Tree],
+) -> Result<(), AllocError>
+    ensures ok { OnOk result (state_of state.new ≡ described_in (state_of state.old) ns.now options (normal_forms definitions.now)) }
+    ensures err { OnErr result (state.new ≡ state.old) }
+{
+    changes_are_moves();
+    if state.count() >= COUNT_LIMIT {
+        return Err(AllocError);
+    }
+    let forms = normal_forms(alloc, definitions)?;
+    state.describe(alloc, ns, options, JList::from_vec(forms))
+}
+
+// The collection, made if it isn't there.
+fn make(alloc: Global, state: &mut State, ns: &NsName) -> Result<(), AllocError>
+    ensures ok { OnOk result (state_of state.new ≡ base_step (state_of state.old) (end ns.now)) }
+    ensures err { OnErr result (state.new ≡ state.old) }
+{
+    changes_are_moves();
+    if state.has(ns) {
+        return Ok(());
+    }
+    if state.count() >= COUNT_LIMIT {
+        return Err(AllocError);
+    }
+    state.create(alloc, ns, Tree::Object(Fields::new(alloc)))
+}
+
+/// Makes a state of what an archive holds, a taking at a time, and stops at the first that it refuses.
 #[derive(Drop)]
 pub struct Collections {
     alloc: Global,
-    names: Names,
-    takings: Vec<Kept>,
+    state: State,
     stop: Option<Stop>,
     starved: bool,
-    ghost taken: { first_stop (takings_in takings.items) ≡ None },
-    ghost sound: { IsTrue (are_sound takings.items) },
 }
 
 impl Collections {
-    ghost use Rattle.restore_base.specs.Taken.{takings_of, stops_of, starved_of};
-
     pub fn new(alloc: Global) -> Collections
-        ensures takings { takings_of result ≡ [] }
+        ensures state { state_in result ≡ map.empty }
         ensures stops { stops_of result ≡ 0 }
         ensures starved { starved_of result ≡ 0 }
     {
         Collections {
             alloc,
-            names: Names::new(),
-            takings: Vec::new(alloc),
+            state: State::new(alloc),
             stop: None,
             starved: false,
         }
     }
 
-    /// What was taken, in order.
-    pub fn takings(&self) -> &[Kept]
-        ensures takings { takings_in result.now ≡ takings_of self.now }
-        ensures sound { are_sound result.now ≡ true }
+    /// What was made of the takings so far.
+    pub fn state(&self) -> &State
+        ensures { state_of result.now ≡ state_in self.now }
     {
-        self.takings.as_slice()
+        &self.state
     }
 
     /// Why it stopped, if it did.
@@ -95,51 +146,17 @@ impl Collections {
         Halt::NoMemory
     }
 
-    // The last taking, if there was memory for it.
-    fn keep(&mut self, kept: Result<Kept, AllocError>) -> Result<(), Halt>
-        requires taken { ForOk kept (λ k. stop_at (taking_of k) ≡ None) }
-        requires sound { ForOk kept (λ k. is_sound k ≡ true) }
-        ensures ok { OnOk result (IfOk kept (λ k. takings_of self.new ≡ takings_of self.old ++ taking_of k ∷ [])) }
-        ensures kept { OnOk result (IsOk kept) }
-        ensures err { OnErr result (takings_of self.new ≡ takings_of self.old) }
-        ensures stop { self.new.stop ≡ self.old.stop }
-        ensures starved { OnOk result (self.new.starved ≡ self.old.starved) }
-        ensures only { IfErr result (λ e. (e ≡ Halt.NoMemory) × (self.new.starved ≡ true)) }
+    // That a taking was taken, if there was memory for it.
+    fn told(&mut self, taken: Result<(), AllocError>) -> Result<(), Halt>
+        ensures ok { OnOk result (self.new ≡ self.old) }
+        ensures taken { OnOk result (IsOk taken) }
+        ensures only { IfErr result (λ e. (e ≡ Halt.NoMemory) × (self.new ≡ record self.old { starved = true })) }
+        ensures starved { OnErr result (IsErr taken) }
     {
-        match kept {
+        match taken {
+            Ok(()) => Ok(()),
             Err(_) => Err(self.starve()),
-            Ok(kept) => match self.takings.push(kept) {
-                Ok(()) => Ok(()),
-                Err(_) => Err(self.starve()),
-            },
         }
-    }
-
-    fn shared_document(&mut self, ns: &NsName, bytes: &[u8]) -> Result<Kept, AllocError>
-        requires { fault_in bytes.now ≡ None }
-        ensures kept { IfOk result (λ k. taking_of k ≡ doc ns.now bytes.now) }
-        ensures sound { IfOk result (λ k. is_sound k ≡ true) }
-        ensures same { self.new ≡ record self.old { names = self.new.names } }
-    {
-        let name = self.names.share(self.alloc, ns)?;
-        Ok(Kept::Doc(name, Bytes::of(self.alloc, bytes)?))
-    }
-
-    fn shared_metadata(&mut self, ns: &NsName, text: &str) -> Result<Kept, AllocError>
-        ensures kept { IfOk result (λ k. taking_of k ≡ meta ns.now text.now) }
-        ensures sound { IfOk result (λ k. is_sound k ≡ true) }
-        ensures same { self.new ≡ record self.old { names = self.new.names } }
-    {
-        let name = self.names.share(self.alloc, ns)?;
-        Ok(Kept::Meta(name, Text::of(self.alloc, text)?))
-    }
-
-    fn shared_end(&mut self, ns: &NsName) -> Result<Kept, AllocError>
-        ensures kept { IfOk result (λ k. taking_of k ≡ end ns.now) }
-        ensures sound { IfOk result (λ k. is_sound k ≡ true) }
-        ensures same { self.new ≡ record self.old { names = self.new.names } }
-    {
-        Ok(Kept::End(self.names.share(self.alloc, ns)?))
     }
 
     // Stops at a text of this namespace that is no metadata.
@@ -172,16 +189,17 @@ impl Collections {
 }
 
 impl DocTaker for Collections {
-    ghost use Rattle.std.specs.Prelude.{List, Some};
+    ghost use Rattle.std.specs.Prelude.{Option, Some};
     ghost use Rattle.archive_format.specs.Archive.{Taking};
+    ghost use Rattle.state_model.specs.States.{State};
     ghost use Rattle.restore_base.specs.Base.{stop_at, same_stop};
-    ghost use Rattle.restore_base.specs.Taken.{takings_of, and_taking, stops_of, starved_of};
+    ghost use Rattle.restore_base.specs.Taken.{state_in, and_taking, stops_of, starved_of};
 
-    ghost Known = { List Taking };
+    ghost Known = { Option State };
 
     ghost adds = { λ _. and_taking };
 
-    ghost known = { λ c. Some (takings_of c) };
+    ghost known = { λ c. Some (Some (state_in c)) };
 
     ghost stops = { λ c. stops_of c };
 
@@ -196,9 +214,9 @@ impl DocTaker for Collections {
         match metadata_of(self.alloc, text) {
             Err(MetaFault::NoMemory) => Err(self.starve()),
             Err(MetaFault::Bad { at }) => Err(self.stop_at_metadata(ns, at)),
-            Ok(_) => {
-                let kept = self.shared_metadata(ns, text);
-                self.keep(kept)
+            Ok((options, defs)) => {
+                let taken = describe(self.alloc, &mut self.state, ns, options, defs.as_slice());
+                self.told(taken)
             }
         }
     }
@@ -210,15 +228,15 @@ impl DocTaker for Collections {
         if !has_id(bytes) {
             return Err(self.stop_without_id(ns));
         }
-        let kept = self.shared_document(ns, bytes);
-        self.keep(kept)
+        let taken = put(self.alloc, &mut self.state, ns, bytes);
+        self.told(taken)
     }
 
     fn end(&mut self, ns: &NsName) -> Result<(), Halt> {
         if is_oplog(ns) {
             return Ok(());
         }
-        let kept = self.shared_end(ns);
-        self.keep(kept)
+        let taken = make(self.alloc, &mut self.state, ns);
+        self.told(taken)
     }
 }

@@ -1,8 +1,8 @@
 //! An archive is taken from a source.
 ghost use Rattle.std.specs.Prelude.{◌≡◌, ◌≤◌, Some, [], IfOk, IsSome, IsErrOf};
 ghost use Rattle.tool_io.specs.Causes.{Rose};
-ghost use Rattle.restore_base.specs.Base.{base};
-ghost use Rattle.restore_base.specs.Taken.{takings_of};
+ghost use Rattle.restore_base.specs.Laws.{DefinitionsStand};
+ghost use Rattle.restore_base.specs.Taken.{state_in};
 ghost use Rattle.restore_base.specs.Outcome.{RestoresTo, IsReadTo, IsRefused, IsUnsettled, OnInput, OneOutcome, RefusedIsOutcome, refuses, stops};
 
 use crate::collections::{Collections, Stop};
@@ -41,9 +41,9 @@ fn fault_of(fault: DemuxFault, collections: Collections) -> RestoreFault
     }
 }
 
-/// The collections of the archive that the source has left. What is kept of it takes memory, and a window of 16,793,600 bytes.
+/// The state of the archive that the source has left. It takes memory for the state, and for a window of 16,793,600 bytes.
 pub fn restore<S: Source>(alloc: Global, source: &mut S) -> Result<Collections, RestoreFault>
-    ensures restored { IfOk result (λ c. OnInput (S.end source.old).bytes (λ all. ((S.end source.new).bytes ≡ Some []) × RestoresTo all (base (takings_of c)))) }
+    ensures restored { IfOk result (λ c. OnInput (S.end source.old).bytes (λ all. ((S.end source.new).bytes ≡ Some []) × RestoresTo all (state_in c))) }
     ensures format { (f : FormatFault) → IsErrOf result (RestoreFault.Format f) → OnInput (S.end source.old).bytes (λ all. IsRefused all (S.end source.new).bytes (refuses f)) }
     ensures stopped { (s : Stop) → IsErrOf result (RestoreFault.Stopped s) → OnInput (S.end source.old).bytes (λ all. IsRefused all (S.end source.new).bytes (stops s)) }
     ensures read_fault { IsErrOf result RestoreFault.ReadFault → Rose (S.end source.old).faults (S.end source.new).faults }
@@ -69,4 +69,9 @@ pub fn one_outcome()
 /// An input that is refused has that outcome, whatever was read of it.
 pub fn refused_is_outcome()
     ensures { RefusedIsOutcome }
+{}
+
+/// The definitions of a metadata text, in normal form, stand in a state in the order of the text.
+pub fn definitions_stand()
+    ensures { DefinitionsStand }
 {}

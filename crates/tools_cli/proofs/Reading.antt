@@ -1,11 +1,10 @@
 -- What was read of the input of `restore`, and what its outcome is.
 use Rattle.std.proofs.Common.{◌≡◌, ◌⊎◌, ℕ, List, inl, inr, sym, subst}
 use Rattle.std.specs.Prelude.{Option, Some, None, []}
-use Rattle.state_listing.specs.Listing.{State}
+use Rattle.state_model.specs.States.{State}
 use Rattle.index_build.specs.declared.fault.CountFault.{CountFault}
 use Rattle.index_build.specs.declared.fault.CountFault.TheVariants as counts
-use Rattle.index_build.specs.Faults.{IsCountFault}
-use Rattle.restore_base.specs.Indexes.{index_fault}
+use Rattle.index_build.specs.Faults.{fault, IsCountFault}
 use Rattle.restore_base.specs.Outcome.{Outcome, RestoresTo, IsOutcome, IsReadTo, IsRefused, OnInput, restores, fails}
 use Rattle.restore_base.proofs.Outcomes.{unread, refused_once}
 use Rattle.tool_io.specs.Ends.{End}
@@ -29,11 +28,11 @@ pub whole_read : (o now : Option (List ℕ)) (s : State) → OnInput o (λ all. 
 whole_read None now s h = tt
 whole_read (Some all) now s h = h.0
 
-pub outcome : (o now : Option (List ℕ)) (s : State) → OnInput o (λ all. (now ≡ Some []) × RestoresTo all s) → index_fault s ≡ None → OnInput o (λ all. IsOutcome all (restores s))
+pub outcome : (o now : Option (List ℕ)) (s : State) → OnInput o (λ all. (now ≡ Some []) × RestoresTo all s) → fault s ≡ None → OnInput o (λ all. IsOutcome all (restores s))
 outcome None now s h n = tt
 outcome (Some all) now s h n = (h.1, n)
 
-pub failure : (o now : Option (List ℕ)) (s : State) (f : CountFault) → OnInput o (λ all. (now ≡ Some []) × RestoresTo all s) → index_fault s ≡ Some f → OnInput o (λ all. IsOutcome all (fails f))
+pub failure : (o now : Option (List ℕ)) (s : State) (f : CountFault) → OnInput o (λ all. (now ≡ Some []) × RestoresTo all s) → fault s ≡ Some f → OnInput o (λ all. IsOutcome all (fails f))
 failure None now s f h n = tt
 failure (Some all) now s f h n = (s, h.1, n)
 
@@ -45,7 +44,7 @@ refused i o h = go i.before.bytes h where
   go (Some all) r = refused_once all i.after.bytes o r
 
 -- what is said where indexes can't be built
-pub unbuilt : (order : RestoreOrder) (status : Status) (f : CountFault) (i o : Turn) (s : State) → IsIndexStatus status f → OnInput i.before.bytes (λ all. (i.after.bytes ≡ Some []) × RestoresTo all s) → IsCountFault f (index_fault s) → Same o → RestoreSays order status i o
+pub unbuilt : (order : RestoreOrder) (status : Status) (f : CountFault) (i o : Turn) (s : State) → IsIndexStatus status f → OnInput i.before.bytes (λ all. (i.after.bytes ≡ Some []) × RestoresTo all s) → IsCountFault f (fault s) → Same o → RestoreSays order status i o
 unbuilt order status counts.NoMemory i o s is r c e = subst (λ t. RestoreSays order t i o) (sym is) (all_read i.before.bytes i.after.bytes s r, inl e)
 unbuilt order status (counts.Parallel n j a) i o s is r c e =
     subst (λ t. RestoreSays order t i o) (sym is) (whole_read i.before.bytes i.after.bytes s r, failure i.before.bytes i.after.bytes s (counts.Parallel n j a) r c, e)

@@ -1,6 +1,7 @@
 -- What `restore` says of the ends, by its status.
 use Rattle.std.specs.Prelude.{◌≡◌, ◌⊎◌, ℕ, List, [], Some}
-use Rattle.state_listing.specs.Listing.{State, listing}
+use Rattle.state_model.specs.States.{State}
+use Rattle.state_listing.specs.Listing.{listing}
 use Rattle.restore_base.specs.declared.collections.Stop.{Stop}
 use Rattle.restore_base.specs.declared.collections.Stop.TheVariants as reasons
 use Rattle.index_build.specs.declared.fault.CountFault.{CountFault}

@@ -1,8 +1,9 @@
 use Rattle.std.proofs.Common.{subst, arith}
 use Rattle.document_lines.specs.Lines.{document_line}
-use Rattle.bson_view.specs.Views.{document}
+use Rattle.bson_view.specs.Held.{held_document}
+use Rattle.restore_base.specs.Listed.{document_lines}
 use Rattle.restore_base.proofs.Fronts.{Left, left_on, left_stop}
-use Rattle.restore_base.proofs.Texts.{documents_text}
+use Rattle.restore_base.proofs.Texts.{line_first}
 use Rattle.restore_base.proofs.listing.list_documents.Goals as goal
 
 pub documents-preserved : goal.documents-preserved
@@ -10,11 +11,11 @@ documents-preserved g c =
     let before = (g.K.Sink.end c.args.sink.now).bytes in
     let now = (g.K.Sink.end c.documents.sink).bytes in
     let form = c.args.form in
-    let text = documents_text form c.args.documents.now.entries in
-    let piece = document_line form (document c.in-Some.view.now) in
+    let text = document_lines form c.args.documents in
+    let piece = document_line form (held_document c.in-Some.document) in
     record {
-      left = left_on before now (g.K.Sink.end c.list_document.new.sink).bytes text piece (documents_text form c.next.new.self)
-          (subst (λ es. Left before now text (documents_text form es)) c.in-Some.ensures.steps c.documents.invariant.left) c.in-Ok.ensures.ok;
+      left = left_on before now (g.K.Sink.end c.list_document.new.sink).bytes text piece (document_lines form c.next.new.self)
+          (subst (Left before now text) (line_first form c.in-Some.document c.documents.left c.next.new.self c.in-Some.ensures.steps) c.documents.invariant.left) c.in-Ok.ensures.ok;
       later = omega (arith, c.documents.invariant.later, c.list_document.ensures.later);
     }
 
@@ -23,7 +24,7 @@ returns-in-Err-clause-err g c =
     let before = (g.K.Sink.end c.args.sink.now).bytes in
     let now = (g.K.Sink.end c.documents.sink).bytes in
     let form = c.args.form in
-    let text = documents_text form c.args.documents.now.entries in
-    let piece = document_line form (document c.in-Some.view.now) in
-    left_stop before now (g.K.Sink.end c.list_document.new.sink).bytes text piece (documents_text form c.next.new.self)
-    (subst (λ es. Left before now text (documents_text form es)) c.in-Some.ensures.steps c.documents.invariant.left) c.in-Err.ensures.err
+    let text = document_lines form c.args.documents in
+    let piece = document_line form (held_document c.in-Some.document) in
+    left_stop before now (g.K.Sink.end c.list_document.new.sink).bytes text piece (document_lines form c.next.new.self)
+    (subst (Left before now text) (line_first form c.in-Some.document c.documents.left c.next.new.self c.in-Some.ensures.steps) c.documents.invariant.left) c.in-Err.ensures.err
