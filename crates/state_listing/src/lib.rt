@@ -2,5 +2,7 @@
 #![tactic(auto)]
 
 mod lines;
+mod listing;
 
-pub use lines::{quoted_name, write_head, write_index};
+pub use lines::quoted_name;
+pub use listing::list;

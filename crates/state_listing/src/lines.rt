@@ -38,7 +38,7 @@ fn head(
 }
 
 /// Writes the lines of a collection that stand before its documents. It is one write.
-pub fn write_head<K: Sink>(
+pub(crate) fn write_head<K: Sink>(
     alloc: Global,
     db: &str,
     coll: &str,
@@ -69,7 +69,7 @@ fn index(alloc: Global, count: Option<u64>, def: &Tree) -> Result<String, AllocE
 }
 
 /// Writes the line of an index: the number of its keys, or that it isn't built, and its definition. It is one write.
-pub fn write_index<K: Sink>(
+pub(crate) fn write_index<K: Sink>(
     alloc: Global,
     count: Option<u64>,
     def: &Tree,

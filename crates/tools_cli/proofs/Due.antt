@@ -1,14 +1,12 @@
 -- Which status is due, and what each command says.
-use Rattle.std.proofs.Common.{ℕ, ◌≡◌, List, inl, inr, refl, sym, ◌∙◌, ap, subst}
+use Rattle.std.proofs.Common.{ℕ, ◌≡◌, List, inl, inr, refl, ap, subst}
 use Rattle.std.specs.Prelude.{Option, None, Some, Ok, Err}
 use Rattle.demux.proofs.Begin.{keeps_same}
-use Rattle.index_build.specs.declared.fault.CountFault.TheVariants as counts
-use Rattle.restore_base.specs.Outcome.{Outcome, restores, fails, IsOutcome, OnInput}
-use Rattle.restore_base.proofs.Outcomes.{outcome_once}
+use Rattle.restore_plan.specs.declared.plan.Plan.{Plan}
+use Rattle.restore_plan.specs.Outcome.{Outcome, restores, refuses, fails, IsOutcome, OnInput}
+use Rattle.restore_plan.proofs.Outcomes.{outcome_once}
 use Rattle.tools_cli.specs.declared.order.Order.TheVariants as orders
 use Rattle.tools_cli.specs.declared.order.RestoreOrder.{RestoreOrder}
-use Rattle.tools_cli.specs.declared.status.ArchiveFault.{ArchiveFault}
-use Rattle.tools_cli.specs.declared.status.ArchiveFault.TheVariants as refusals
 use Rattle.tools_cli.specs.declared.status.Status.{Status}
 use Rattle.tools_cli.specs.declared.status.Status.TheVariants as is
 use Rattle.tools_cli.specs.declared.texts.TheConstants.{HELP, VERSION}
@@ -16,38 +14,43 @@ use Rattle.tools_cli.specs.Words.{Meaning}
 use Rattle.tool_io.specs.Ends.{End}
 use Rattle.tools_cli.specs.Ends.{Turn, Untouched}
 use Rattle.tools_cli.specs.Statuses.{Gives}
-use Rattle.tools_cli.specs.RestoreAnswers.{outcome_of, outcome_code, RestoreSays, RestoreAnswers}
-use Rattle.tools_cli.specs.ShowAnswers.{ShowAnswers}
+use Rattle.tools_cli.specs.RestoreAnswers.{outcome_code, RestoreSays, RestoreAnswers}
+use Rattle.tools_cli.specs.ShowAnswers.{Shown, ShowAnswers}
 use Rattle.tools_cli.specs.Answers.{Says}
-use Rattle.tools_cli.proofs.Reading.{refused, none_read}
+use Rattle.tools_cli.proofs.Reading.{refused, failed, none_read}
 use Rattle.tools_cli.proofs.Telling.{keeps_front}
 
 -- `restore`
 
-same_code : (known : Option (List ℕ)) (o p : Outcome) (all : List ℕ) → OnInput known (λ b. IsOutcome b o) → known ≡ Some all → IsOutcome all p → outcome_code o ≡ outcome_code p
-same_code None o p all has e h = absurd cc
-same_code (Some b) o p all has e h =
+same_code : (p : Plan) (known : Option (List ℕ)) (o q : Outcome) (all : List ℕ) → OnInput known (λ b. IsOutcome p b o) → known ≡ Some all → IsOutcome p all q → outcome_code o ≡ outcome_code q
+same_code p None o q all has e h = absurd cc
+same_code p (Some b) o q all has e h =
     let whole : b ≡ all = cc in
-    let Q : List ℕ → Type 0 = λ b. IsOutcome b o in
-    ap outcome_code (outcome_once all o p (subst Q whole has) h)
+    let Q : List ℕ → Type 0 = λ b. IsOutcome p b o in
+    ap outcome_code (outcome_once p all o q (subst Q whole has) h)
 
-fault_code : (f : ArchiveFault) → outcome_code (outcome_of f) ≡ 3
-fault_code (refusals.Format f) = refl
-fault_code (refusals.NoId ns) = refl
-fault_code (refusals.Metadata ns at) = refl
-
-restore_due : (order : RestoreOrder) (s : Status) (i o : Turn) → RestoreSays order s i o → (all : List ℕ) (p : Outcome) → i.before.bytes ≡ Some all → IsOutcome all p → Gives s (outcome_code p)
-restore_due order is.Done i o h all p e k = inl (same_code i.before.bytes (restores h.1.1.0) p all h.1.1.1 e k)
-restore_due order (is.Usage at) i o h all p e k = absurd h
-restore_due order (is.BadArchive f) i o h all p e k = inl (sym (fault_code f) ∙ same_code i.before.bytes (outcome_of f) p all (refused i (outcome_of f) h.0) e k)
-restore_due order is.ReadFault i o h all p e k = inr tt
-restore_due order is.WriteFault i o h all p e k = inr tt
-restore_due order is.NoMemory i o h all p e k = inr tt
-restore_due order (is.DuplicateKey ns j a b) i o h all p e k = inl (same_code i.before.bytes (fails (counts.Duplicate ns j a b)) p all h.1 e k)
-restore_due order (is.ParallelArrays ns j a) i o h all p e k = inl (same_code i.before.bytes (fails (counts.Parallel ns j a)) p all h.1 e k)
+restore_due : (order : RestoreOrder) (s : Status) (i o : Turn) → RestoreSays order s i o → (all : List ℕ) (q : Outcome) → i.before.bytes ≡ Some all → IsOutcome order.plan all q → Gives s (outcome_code q)
+restore_due order is.Done i o h all q e k = inl (same_code order.plan i.before.bytes (restores h.1.1.0) q all h.1.1.1 e k)
+restore_due order (is.Usage at) i o h all q e k = absurd h
+restore_due order (is.BadArchive f) i o h all q e k = inl (same_code order.plan i.before.bytes (refuses f) q all (refused order.plan i (refuses f) h.0) e k)
+restore_due order (is.NotRestored f) i o h all q e k = inl (same_code order.plan i.before.bytes (fails f) q all (failed order.plan i f h.0) e k)
+restore_due order is.ReadFault i o h all q e k = inr tt
+restore_due order is.WriteFault i o h all q e k = inr tt
+restore_due order is.NoMemory i o h all q e k = inr tt
 
 pub restore_says : (order : RestoreOrder) (s : Status) (i o r : Turn) → RestoreSays order s i o → Untouched r → RestoreAnswers order s i o r
 restore_says order s i o r h e = record { says = h; silent = e; due = restore_due order s i o h }
+
+-- `--help` and `--version`
+
+pub show_says : (text : List ℕ) (s : Status) (i : End) (o : Turn) (r : End) → Shown text s o → ShowAnswers text s (record { before = i; after = i }) o (record { before = r; after = r })
+show_says text is.Done i o r h = record { unread = keeps_same i.bytes; shown = h; silent = refl; due = inl refl }
+show_says text (is.Usage at) i o r h = absurd h
+show_says text (is.BadArchive f) i o r h = absurd h
+show_says text (is.NotRestored f) i o r h = absurd h
+show_says text is.ReadFault i o r h = absurd h
+show_says text is.WriteFault i o r h = record { unread = keeps_same i.bytes; shown = h; silent = refl; due = inr tt }
+show_says text is.NoMemory i o r h = record { unread = keeps_same i.bytes; shown = h; silent = refl; due = inr tt }
 
 -- where nothing was done
 
@@ -55,10 +58,10 @@ abbrev pub still : End → Turn
 still e = record { before = e; after = e }
 
 show_nothing : (text : List ℕ) (i o r : End) → ShowAnswers text is.NoMemory (still i) (still o) (still r)
-show_nothing text i o r = record { unread = keeps_same i.bytes; shown = keeps_front o.bytes o.bytes text (keeps_same o.bytes); silent = refl; due = inr tt }
+show_nothing text i o r = show_says text is.NoMemory i (still o) r (keeps_front o.bytes o.bytes text (keeps_same o.bytes))
 
 pub memory_says : (m : Meaning) (i o r : End) → Says m is.NoMemory (still i) (still o) (still r)
-memory_says (Ok (orders.Restore order)) i o r = restore_says order is.NoMemory (still i) (still o) (still r) (none_read i, inl (keeps_same o.bytes)) refl
+memory_says (Ok (orders.Restore order)) i o r = restore_says order is.NoMemory (still i) (still o) (still r) (none_read order.plan i, inl (keeps_same o.bytes)) refl
 memory_says (Ok orders.Help) i o r = show_nothing HELP.now i o r
 memory_says (Ok orders.Version) i o r = show_nothing VERSION.now i o r
 memory_says (Err at) i o r = record { names = tt; unread = keeps_same i.bytes; unwritten = keeps_same o.bytes; silent = refl; due = inr tt }

@@ -6,3 +6,4 @@ pub mod Reading
 pub mod Stopped
 pub mod Telling
 pub mod Pieces
+pub mod Patterns

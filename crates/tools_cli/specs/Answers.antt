@@ -28,11 +28,10 @@ abbrev pub Reports : Status → Turn → Type 0
 Reports is.Done report = Same report
 Reports (is.Usage at) report = Tells report (line_of (is.Usage at))
 Reports (is.BadArchive f) report = Tells report (line_of (is.BadArchive f))
+Reports (is.NotRestored f) report = Tells report (line_of (is.NotRestored f))
 Reports is.ReadFault report = Tells report (line_of is.ReadFault)
 Reports is.WriteFault report = Tells report (line_of is.WriteFault)
 Reports is.NoMemory report = Tells report (line_of is.NoMemory)
-Reports (is.DuplicateKey ns i a b) report = Tells report (line_of (is.DuplicateKey ns i a b))
-Reports (is.ParallelArrays ns i a) report = Tells report (line_of (is.ParallelArrays ns i a))
 
 -- there was no memory for the line of this status
 abbrev pub RunsOut : Status → Turn → Type 0

@@ -1,5 +1,6 @@
 pub mod Values
 pub mod Words
+pub mod Patterns
 pub mod Statuses
 pub mod Lines
 pub mod Answers

@@ -1,9 +1,10 @@
 -- The line of each status on the report.
-use Rattle.std.specs.Prelude.{ℕ, List, [], ◌∷◌, ◌++◌, codes}
+use Rattle.std.specs.Prelude.{ℕ, List, [], ◌∷◌, ◌++◌, codes, Option, Some, None}
 use Rattle.std.specs.Fmt.{decimal}
 use Rattle.std.specs.Int.{w64, to_be_bytes}
 use Rattle.hex.specs.Hex.{encode_lower}
 use Rattle.bson_value.specs.declared.namespace.NsName.{NsName}
+use Rattle.bson_value.specs.declared.value.Ts.{Ts}
 use Rattle.bson_value.specs.declared.value.Value.{Value}
 use Rattle.extjson.specs.Trees.{tree_of}
 use Rattle.json_text.specs.Print.{quoted, text_of}
@@ -12,8 +13,8 @@ use Rattle.bson_check.specs.declared.fault.BsonKind.TheVariants as kinds
 use Rattle.archive_format.specs.declared.fault.FormatFault.{FormatFault}
 use Rattle.archive_format.specs.declared.fault.FormatFault.TheVariants as faults
 use Rattle.state_listing.specs.Listing.{name_text}
-use Rattle.tools_cli.specs.declared.status.ArchiveFault.{ArchiveFault}
-use Rattle.tools_cli.specs.declared.status.ArchiveFault.TheVariants as refusals
+use Rattle.restore_plan.specs.declared.fault.RestoreFault.{RestoreFault}
+use Rattle.restore_plan.specs.declared.fault.RestoreFault.TheVariants as restores
 use Rattle.tools_cli.specs.declared.status.Status.{Status}
 use Rattle.tools_cli.specs.declared.status.Status.TheVariants as is
 
@@ -55,16 +56,11 @@ format_text (faults.Crc ns said found) = codes "crc of " ++ quoted_name ns ++ co
 format_text (faults.NotEnded ns) = quoted_name ns ++ codes " not ended"
 format_text faults.TooLong = codes "too long"
 
-abbrev pub refusal_text : ArchiveFault → List ℕ
-refusal_text (refusals.Format f) = format_text f
-refusal_text (refusals.NoId ns) = codes "no _id in " ++ quoted_name ns
-refusal_text (refusals.Metadata ns at) = numbered (codes "bad metadata of " ++ quoted_name ns ++ codes " at ") at
-
 abbrev pub usage_line : ℕ → List ℕ
 usage_line at = line (numbered (codes "usage: word ") at)
 
-abbrev pub refusal_line : ArchiveFault → List ℕ
-refusal_line f = line (codes "bad archive: " ++ refusal_text f)
+abbrev pub archive_line : List ℕ → List ℕ
+archive_line text = line (codes "bad archive: " ++ text)
 
 abbrev pub no_memory_line : List ℕ
 no_memory_line = codes "no memory\n"
@@ -83,12 +79,43 @@ duplicate_line ns i a b = line (codes "duplicate key: " ++ index_text ns i ++ co
 abbrev pub parallel_line : NsName → List ℕ → Value → List ℕ
 parallel_line ns i a = line (codes "parallel arrays: " ++ index_text ns i ++ codes " " ++ id_text a)
 
+-- seconds and ordinal
+abbrev pub ts_text : Ts → List ℕ
+ts_text ts = decimal ts.secs ++ codes ":" ++ decimal ts.inc
+
+abbrev pub no_id_text : NsName → List ℕ
+no_id_text ns = codes "no _id in " ++ quoted_name ns
+
+abbrev pub metadata_text : NsName → ℕ → List ℕ
+metadata_text ns at = numbered (codes "bad metadata of " ++ quoted_name ns ++ codes " at ") at
+
+abbrev pub unknown_line : List ℕ → List ℕ
+unknown_line text = line (codes "unknown operation: " ++ text)
+
+-- an operation of the oplog that isn't known, at its timestamp
+abbrev pub operation_text : Ts → List ℕ → List ℕ
+operation_text ts name = ts_text ts ++ codes " " ++ name
+
+-- of an entry that can't be read, with its timestamp where that can be read
+abbrev pub unreadable_text : Option Ts → List ℕ
+unreadable_text None = codes "unreadable"
+unreadable_text (Some ts) = operation_text ts (codes "unreadable")
+
+abbrev pub restore_line : RestoreFault → List ℕ
+restore_line (restores.Metadata ns at) = archive_line (metadata_text ns at)
+restore_line (restores.NoId ns) = archive_line (no_id_text ns)
+restore_line (restores.Entry ts) = unknown_line (unreadable_text ts)
+restore_line (restores.Rename ts) = unknown_line (operation_text ts (codes "renameCollection"))
+restore_line (restores.OtherCommand ts name) = unknown_line (operation_text ts name)
+restore_line (restores.Parallel ns i a) = parallel_line ns i a
+restore_line (restores.Duplicate ns i a b) = duplicate_line ns i a b
+restore_line restores.NoMemory = no_memory_line
+
 abbrev pub line_of : Status → List ℕ
 line_of is.Done = []
 line_of (is.Usage at) = usage_line at
-line_of (is.BadArchive f) = refusal_line f
+line_of (is.BadArchive f) = archive_line (format_text f)
+line_of (is.NotRestored f) = restore_line f
 line_of is.ReadFault = codes "read fault\n"
 line_of is.WriteFault = codes "write fault\n"
 line_of is.NoMemory = no_memory_line
-line_of (is.DuplicateKey ns i a b) = duplicate_line ns i a b
-line_of (is.ParallelArrays ns i a) = parallel_line ns i a

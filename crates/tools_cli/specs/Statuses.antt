@@ -2,30 +2,47 @@
 use Rattle.std.specs.Prelude.{⊤, ◌≡◌, ◌⊎◌, ℕ, List}
 use Rattle.bson_value.specs.declared.namespace.NsName.{NsName}
 use Rattle.bson_value.specs.declared.value.Value.{Value}
-use Rattle.tools_cli.specs.declared.status.ArchiveFault.{ArchiveFault}
+use Rattle.archive_format.specs.declared.fault.FormatFault.{FormatFault}
+use Rattle.restore_plan.specs.declared.fault.RestoreFault.{RestoreFault}
+use Rattle.restore_plan.specs.declared.fault.RestoreFault.TheVariants as faults
 use Rattle.tools_cli.specs.declared.status.Status.{Status}
 use Rattle.tools_cli.specs.declared.status.Status.TheVariants as is
+
+-- of an archive that can't be restored
+abbrev pub restore_code : RestoreFault → ℕ
+restore_code (faults.Metadata ns at) = 3
+restore_code (faults.NoId ns) = 3
+restore_code (faults.Duplicate ns i a b) = 6
+restore_code (faults.Parallel ns i a) = 7
+restore_code (faults.Entry ts) = 8
+restore_code (faults.Rename ts) = 8
+restore_code (faults.OtherCommand ts name) = 8
+restore_code faults.NoMemory = 11
 
 abbrev pub code_of : Status → ℕ
 code_of is.Done = 0
 code_of (is.Usage at) = 1
 code_of (is.BadArchive f) = 3
+code_of (is.NotRestored f) = restore_code f
 code_of is.ReadFault = 9
 code_of is.WriteFault = 10
 code_of is.NoMemory = 11
-code_of (is.DuplicateKey ns i a b) = 6
-code_of (is.ParallelArrays ns i a) = 7
+
+-- it is a fault of a restore with this number
+abbrev pub IsFailure : ℕ → Status → Type 0
+IsFailure n s = (f : RestoreFault) × (s ≡ is.NotRestored f) × (restore_code f ≡ n)
 
 -- what the number of a status tells of it
 pub record Numbered (s : Status) : Type 0 where
   pub done : code_of s ≡ 0 → s ≡ is.Done
   pub usage : code_of s ≡ 1 → (at : ℕ) × (s ≡ is.Usage at)
-  pub bad_archive : code_of s ≡ 3 → (f : ArchiveFault) × (s ≡ is.BadArchive f)
+  pub bad_archive : code_of s ≡ 3 → ((f : FormatFault) × (s ≡ is.BadArchive f)) ⊎ IsFailure 3 s
+  pub duplicate_key : code_of s ≡ 6 → (ns : NsName) × (i : List ℕ) × (a : Value) × (b : Value) × (s ≡ is.NotRestored (faults.Duplicate ns i a b))
+  pub parallel_arrays : code_of s ≡ 7 → (ns : NsName) × (i : List ℕ) × (a : Value) × (s ≡ is.NotRestored (faults.Parallel ns i a))
+  pub unknown_operation : code_of s ≡ 8 → IsFailure 8 s
   pub read_fault : code_of s ≡ 9 → s ≡ is.ReadFault
   pub write_fault : code_of s ≡ 10 → s ≡ is.WriteFault
-  pub no_memory : code_of s ≡ 11 → s ≡ is.NoMemory
-  pub duplicate_key : code_of s ≡ 6 → (ns : NsName) × (i : List ℕ) × (a : Value) × (b : Value) × (s ≡ is.DuplicateKey ns i a b)
-  pub parallel_arrays : code_of s ≡ 7 → (ns : NsName) × (i : List ℕ) × (a : Value) × (s ≡ is.ParallelArrays ns i a)
+  pub no_memory : code_of s ≡ 11 → (s ≡ is.NoMemory) ⊎ (s ≡ is.NotRestored faults.NoMemory)
 
 -- the law that numbers tell statuses apart
 abbrev pub NumbersTellApart : Type 0

@@ -57,3 +57,11 @@ value_of kinds.Pattern text = option_map values.Pattern (pattern_of text)
 abbrev pub is_hex : Value → Bool
 is_hex (values.Form forms.Hex) = true
 is_hex _ = false
+
+abbrev pub moment_in : Value → Option Ts
+moment_in (values.Moment ts) = Some ts
+moment_in _ = None
+
+abbrev pub pattern_in : Value → Option Literals
+pattern_in (values.Pattern p) = Some p
+pattern_in _ = None

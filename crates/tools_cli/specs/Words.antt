@@ -1,7 +1,8 @@
 -- What the words of the command line mean: a command with its order, or the place of the first word that can't stand where it
 -- stands, counted from 0. Where a rule of the command isn't met, that place is the number of words.
-use Rattle.std.specs.Prelude.{◌≡◌, ℕ, ◌+◌, Bool, true, false, not, ◌||◌, nat_eq, List, [], ◌∷◌, ◌++◌, take, drop, length, map, fold, filter, Option, Some, None, option_map, option_and_then, Result, Ok, Err, String, string_bytes, codes, if◌then◌else◌}
-use Rattle.std.specs.List.{list_any, list_all}
+use Rattle.std.specs.Prelude.{◌≡◌, ℕ, ◌+◌, Bool, true, false, not, ◌||◌, ◌&&◌, nat_eq, List, [], ◌∷◌, ◌++◌, take, drop, length, map, fold, filter, Option, Some, None, option_map, option_and_then, Result, Ok, Err, String, string_bytes, codes, if◌then◌else◌}
+use Rattle.std.specs.List.{list_any, list_all, flat_map, zip}
+use Rattle.std.specs.Option.{option_to_list, option_or}
 use Rattle.std.specs.Str.{bytes_eq}
 use Rattle.std.specs.declared.alloc.Global.{Global}
 use Rattle.document_lines.specs.declared.form.ListForm.{ListForm}
@@ -15,7 +16,11 @@ use Rattle.tools_cli.specs.declared.table.OptionName.TheVariants as names
 use Rattle.tools_cli.specs.declared.value.Kind.{Kind}
 use Rattle.tools_cli.specs.declared.value.Kind.TheVariants as kinds
 use Rattle.tools_cli.specs.declared.value.Value.{Value}
-use Rattle.tools_cli.specs.Values.{row_of, value_of, is_hex}
+use Rattle.tools_cli.specs.Values.{row_of, value_of, is_hex, moment_in, pattern_in}
+use Rattle.bson_value.specs.declared.value.Ts.{Ts}
+use Rattle.ns_patterns.specs.Literals.{Literals}
+use Rattle.restore_filter.specs.Rules.{Rules}
+use Rattle.restore_plan.specs.declared.plan.Plan.{Plan}
 use Rattle.tools_cli.specs.declared.table.Times.{Times}
 use Rattle.tools_cli.specs.declared.table.Times.TheVariants as times
 use Rattle.tools_cli.specs.declared.table.OptionRow.{OptionRow}
@@ -37,6 +42,12 @@ commands = (codes "restore", verbs.Restore) ∷ (codes "--help", verbs.Help) ∷
 -- an option's word is its name and directly behind it a value
 abbrev pub name_of : OptionName → List ℕ
 name_of names.Archive = codes "--archive"
+name_of names.OplogReplay = codes "--oplogReplay"
+name_of names.OplogLimit = codes "--oplogLimit="
+name_of names.NsInclude = codes "--nsInclude="
+name_of names.NsExclude = codes "--nsExclude="
+name_of names.NsFrom = codes "--nsFrom="
+name_of names.NsTo = codes "--nsTo="
 name_of names.Form = codes "--form="
 
 abbrev pub row : OptionName → Kind → Times → OptionRow
@@ -44,24 +55,31 @@ row o k t = record { option = o; kind = k; times = t }
 
 -- the options that may stand behind a command, in any order
 abbrev pub options : Verb → List OptionRow
-options verbs.Restore = row names.Archive kinds.Nothing times.Once ∷ row names.Form kinds.Form times.Once ∷ []
+options verbs.Restore =
+    row names.Archive kinds.Nothing times.Once
+    ∷ row names.OplogReplay kinds.Nothing times.Once
+    ∷ row names.OplogLimit kinds.Moment times.Once
+    ∷ row names.NsInclude kinds.Pattern times.Any
+    ∷ row names.NsExclude kinds.Pattern times.Any
+    ∷ row names.NsFrom kinds.Pattern times.Any
+    ∷ row names.NsTo kinds.Pattern times.Any
+    ∷ row names.Form kinds.Form times.Once
+    ∷ []
 options verbs.Help = []
 options verbs.Version = []
 
 -- and what must hold of those that stand
 abbrev pub rules : Verb → List Rule
-rules verbs.Restore = must.Needed names.Archive ∷ []
+rules verbs.Restore =
+    must.Needed names.Archive
+    ∷ must.Needs names.OplogLimit names.OplogReplay
+    ∷ must.Excludes names.NsFrom names.OplogReplay
+    ∷ must.Excludes names.NsTo names.OplogReplay
+    ∷ must.Equal names.NsFrom names.NsTo
+    ∷ must.SameStars names.NsFrom names.NsTo
+    ∷ []
 rules verbs.Help = []
 rules verbs.Version = []
-
--- the order of a command with these options: the form of the listing is JSON, where nothing else is said
-abbrev pub form_of : List Given → ListForm
-form_of given = if list_any (λ g. is_hex g.value) given then forms.Hex else forms.Json
-
-abbrev pub order_of : Verb → List Given → Order
-order_of verbs.Restore given = orders.Restore (record { form = form_of given })
-order_of verbs.Help given = orders.Help
-order_of verbs.Version given = orders.Version
 
 -- One word.
 
@@ -110,6 +128,45 @@ unless_spent given (Some g) = if may_stand g given then Some g else None
 abbrev pub option_at : Verb → List Given → List ℕ → Option Given
 option_at verb given w = unless_spent given (first_row (options verb) w)
 
+-- What the options say.
+
+-- the patterns of an option, in their order
+abbrev pub pattern_given : OptionName → Given → List Literals
+pattern_given o g = if same_option g.row.option o then option_to_list (pattern_in g.value) else []
+
+abbrev pub patterns : OptionName → List Given → List Literals
+patterns o given = flat_map (pattern_given o) given
+
+-- the patterns of each pair have as many stars
+abbrev pub same_stars : List (Literals × Literals) → Bool
+same_stars [] = true
+same_stars (p ∷ ps) = nat_eq (length p.0.behind) (length p.1.behind) && same_stars ps
+
+-- which collections are taken, and how they are renamed
+abbrev pub filter_of : List Given → Rules
+filter_of given = record {
+  include = patterns names.NsInclude given;
+  exclude = patterns names.NsExclude given;
+  renames = zip (patterns names.NsFrom given) (patterns names.NsTo given);
+}
+
+-- the limit, where one is given
+abbrev pub limit_of : List Given → Option Ts
+limit_of [] = None
+limit_of (g ∷ gs) = option_or (moment_in g.value) (limit_of gs)
+
+abbrev pub plan_of : List Given → Plan
+plan_of given = record { filter = filter_of given; replaying = stands names.OplogReplay given; limit = limit_of given }
+
+-- the form of the listing is JSON, where nothing else is said
+abbrev pub form_of : List Given → ListForm
+form_of given = if list_any (λ g. is_hex g.value) given then forms.Hex else forms.Json
+
+abbrev pub order_of : Verb → List Given → Order
+order_of verbs.Restore given = orders.Restore (record { plan = plan_of given; form = form_of given })
+order_of verbs.Help given = orders.Help
+order_of verbs.Version given = orders.Version
+
 -- All words.
 
 abbrev pub holds : Rule → List Given → Bool
@@ -117,6 +174,7 @@ holds (must.Needed a) given = stands a given
 holds (must.Needs a b) given = not (stands a given) || stands b given
 holds (must.Excludes a b) given = not (stands a given) || not (stands b given)
 holds (must.Equal a b) given = nat_eq (times_given a given) (times_given b given)
+holds (must.SameStars a b) given = same_stars (zip (patterns a given) (patterns b given))
 
 abbrev pub hold : Verb → List Given → Bool
 hold verb given = list_all (λ r. holds r given) (rules verb)

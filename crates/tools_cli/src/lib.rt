@@ -1,6 +1,7 @@
 //! The top call.
 #![tactic(auto)]
 
+mod filter;
 mod listing;
 mod order;
 mod report;
@@ -12,6 +13,6 @@ mod value;
 mod words;
 
 pub use order::{Order, RestoreOrder};
-pub use status::{ArchiveFault, Status, numbers_tell_apart};
+pub use status::{Status, numbers_tell_apart};
 pub use texts::{HELP, VERSION};
 pub use top::tools;

@@ -1,62 +1,36 @@
 //! The restore of an archive, and the listing of what it gives.
 ghost use Rattle.std.specs.Prelude.{◌≡◌};
 ghost use Rattle.tools_cli.specs.Ends.{turn};
-ghost use Rattle.tools_cli.specs.RestoreAnswers.{RestoreSays, IsIndexStatus};
+ghost use Rattle.tools_cli.specs.RestoreAnswers.{RestoreSays};
 
 use crate::order::RestoreOrder;
-use crate::status::{ArchiveFault, Status};
-use index_build::CountFault;
-use restore_base::{ListFault, RestoreFault, Stop, restore};
+use crate::status::Status;
+use restore_plan::{ArchiveFault, restore_archive};
+use state_listing::list;
 use std::alloc::Global;
 use tool_io::{Fault, Sink, Source};
-
-// What indexes that can't be built are told as.
-fn index_status(fault: CountFault) -> Status
-    ensures { IsIndexStatus result fault }
-{
-    match fault {
-        CountFault::Parallel { ns, index, id } => Status::ParallelArrays { ns, index, id },
-        CountFault::Duplicate {
-            ns,
-            index,
-            first,
-            second,
-        } => Status::DuplicateKey {
-            ns,
-            index,
-            first,
-            second,
-        },
-        CountFault::NoMemory => Status::NoMemory,
-    }
-}
 
 /// Reads an archive from the input, and lists on the output what it restores to.
 pub fn list_archive<S: Source, K: Sink>(
     alloc: Global,
-    order: &RestoreOrder,
+    order: RestoreOrder,
     input: &mut S,
     output: &mut K,
 ) -> Status
-    ensures { RestoreSays order.now result
+    ensures { RestoreSays order result
         (turn (S.end input.old) (S.end input.new))
         (turn (K.end output.old) (K.end output.new)) }
 {
-    match restore(alloc, input) {
-        Ok(collections) => match collections.list(alloc, order.form, output) {
+    let RestoreOrder { plan, form } = order;
+    match restore_archive(alloc, plan, input) {
+        Ok((state, counts)) => match list(alloc, &state, &counts, form, output) {
             Ok(()) => Status::Done,
-            Err(ListFault::Indexes(fault)) => index_status(fault),
-            Err(ListFault::Sink(Fault::Failed)) => Status::WriteFault,
-            Err(ListFault::Sink(Fault::NoMemory)) => Status::NoMemory,
+            Err(Fault::Failed) => Status::WriteFault,
+            Err(Fault::NoMemory) => Status::NoMemory,
         },
-        Err(RestoreFault::Format(fault)) => Status::BadArchive(ArchiveFault::Format(fault)),
-        Err(RestoreFault::Stopped(Stop::NoId { ns })) => Status::BadArchive(ArchiveFault::NoId {
-            ns,
-        }),
-        Err(RestoreFault::Stopped(Stop::Metadata { ns, at })) => {
-            Status::BadArchive(ArchiveFault::Metadata { ns, at })
-        }
-        Err(RestoreFault::ReadFault) => Status::ReadFault,
-        Err(RestoreFault::NoMemory) => Status::NoMemory,
+        Err(ArchiveFault::Format(fault)) => Status::BadArchive(fault),
+        Err(ArchiveFault::Restore(fault)) => Status::NotRestored(fault),
+        Err(ArchiveFault::ReadFault) => Status::ReadFault,
+        Err(ArchiveFault::NoMemory) => Status::NoMemory,
     }
 }

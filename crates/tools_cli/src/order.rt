@@ -1,7 +1,8 @@
 use document_lines::ListForm;
+use restore_plan::Plan;
 
 /// What a command is told to do.
-#[derive(Clone, Copy, Debug, PartialEq, Eq)]
+#[derive(Debug, Drop)]
 pub enum Order {
     Restore(RestoreOrder),
     Help,
@@ -9,8 +10,10 @@ pub enum Order {
 }
 
 /// What `restore` is told.
-#[derive(Clone, Copy, Debug, PartialEq, Eq)]
+#[derive(Debug, Drop)]
 pub struct RestoreOrder {
+    /// What is restored of the archive.
+    pub plan: Plan,
     /// How documents are listed: as JSON, where nothing else is said.
     pub form: ListForm,
 }

@@ -1,18 +1,19 @@
 //! The lines of the report.
-ghost use Rattle.std.specs.Prelude.{◌≡◌, ◌⊎◌, IfOk, string_bytes};
+ghost use Rattle.std.specs.Prelude.{◌≡◌, ◌⊎◌, ℕ, List, IfOk, string_bytes};
 ghost use Rattle.tools_cli.specs.Ends.{turn, Tells};
 ghost use Rattle.tools_cli.specs.Answers.{Told, RunsOut};
 ghost use Rattle.json_text.specs.Print.{quoted as quoted_string};
-ghost use Rattle.tools_cli.specs.Lines.{kind_text, quoted_name, sum_text, format_text, refusal_text, usage_line, refusal_line, id_text, index_text, duplicate_line, parallel_line, line_of};
+ghost use Rattle.tools_cli.specs.Lines.{kind_text, quoted_name, sum_text, format_text, usage_line, archive_line, no_id_text, metadata_text, ts_text, operation_text, unreadable_text, unknown_line, id_text, index_text, duplicate_line, parallel_line, restore_line, line_of};
 
-use crate::status::{ArchiveFault, Status};
+use crate::status::Status;
 use archive_format::FormatFault;
 use bson_check::BsonKind;
-use bson_value::{NsName, Value};
+use bson_value::{NsName, Ts, Value};
 use containers::Text;
 use extjson::tree_of;
 use json_text::print;
 use json_tree::Tree;
+use restore_plan::RestoreFault;
 use std::alloc::{AllocError, Global};
 use tool_io::{Fault, Sink};
 
@@ -110,34 +111,50 @@ fn format_text(alloc: Global, fault: &FormatFault) -> Result<String, AllocError>
 }
 
 fn no_id_text(alloc: Global, ns: &NsName) -> Result<String, AllocError>
-    ensures { IfOk result (λ s. string_bytes s ≡ refusal_text (ArchiveFault.NoId ns.now)) }
+    ensures { IfOk result (λ s. string_bytes s ≡ no_id_text ns.now) }
 {
     let name = quoted(alloc, ns)?;
     format!(in alloc; "no _id in {name}")
 }
 
 fn metadata_text(alloc: Global, ns: &NsName, at: usize) -> Result<String, AllocError>
-    ensures { IfOk result (λ s. string_bytes s ≡ refusal_text (ArchiveFault.Metadata ns.now at)) }
+    ensures { IfOk result (λ s. string_bytes s ≡ metadata_text ns.now at) }
 {
     let name = quoted(alloc, ns)?;
     format!(in alloc; "bad metadata of {name} at {at}")
 }
 
-fn refusal_text(alloc: Global, fault: &ArchiveFault) -> Result<String, AllocError>
-    ensures { IfOk result (λ s. string_bytes s ≡ refusal_text fault.now) }
+fn archive_line(alloc: Global, text: Result<String, AllocError>) -> Result<String, AllocError>
+    ensures { (t : List ℕ) → IfOk text (λ s. string_bytes s ≡ t) → IfOk result (λ s. string_bytes s ≡ archive_line t) }
 {
-    match fault {
-        ArchiveFault::Format(fault) => format_text(alloc, fault),
-        ArchiveFault::NoId { ns } => no_id_text(alloc, ns),
-        ArchiveFault::Metadata { ns, at } => metadata_text(alloc, ns, *at),
-    }
+    let text = text?;
+    format!(in alloc; "bad archive: {text}\n")
 }
 
-fn refusal_line(alloc: Global, fault: &ArchiveFault) -> Result<String, AllocError>
-    ensures { IfOk result (λ s. string_bytes s ≡ refusal_line fault.now) }
+// Seconds and ordinal.
+fn ts_text(alloc: Global, ts: Ts) -> Result<String, AllocError>
+    ensures { IfOk result (λ s. string_bytes s ≡ ts_text ts) }
 {
-    let text = refusal_text(alloc, fault)?;
-    format!(in alloc; "bad archive: {text}\n")
+    let secs = ts.secs;
+    let inc = ts.inc;
+    format!(in alloc; "{secs}:{inc}")
+}
+
+// An operation of the oplog that isn't known.
+fn operation_line(alloc: Global, ts: Ts, name: &str) -> Result<String, AllocError>
+    ensures { IfOk result (λ s. string_bytes s ≡ unknown_line (operation_text ts name.now)) }
+{
+    let ts = ts_text(alloc, ts)?;
+    format!(in alloc; "unknown operation: {ts} {name}\n")
+}
+
+fn unreadable_line(alloc: Global, ts: Option<Ts>) -> Result<String, AllocError>
+    ensures { IfOk result (λ s. string_bytes s ≡ unknown_line (unreadable_text ts)) }
+{
+    match ts {
+        Some(ts) => operation_line(alloc, ts, "unreadable"),
+        None => format!(in alloc; "unknown operation: unreadable\n"),
+    }
 }
 
 fn usage_line(alloc: Global, word: usize) -> Result<String, AllocError>
@@ -156,14 +173,6 @@ fn tell_text<R: Sink>(report: &mut R, text: Result<String, AllocError>, status: 
         Ok(text) => tell_line(report, text.as_bytes(), status),
         Err(_) => tell_line(report, b"no memory\n", Status::NoMemory),
     }
-}
-
-fn tell_refusal<R: Sink>(alloc: Global, fault: ArchiveFault, report: &mut R) -> Status
-    ensures { ((result ≡ Status.BadArchive fault) × Tells (turn (R.end report.old) (R.end report.new)) (line_of (Status.BadArchive fault)))
-        ⊎ ((result ≡ Status.NoMemory) × RunsOut (Status.BadArchive fault) (turn (R.end report.old) (R.end report.new))) }
-{
-    let text = refusal_line(alloc, &fault);
-    tell_text(report, text, Status::BadArchive(fault))
 }
 
 // An `_id`, as canonical Extended JSON.
@@ -213,39 +222,41 @@ fn parallel_line(alloc: Global, ns: &NsName, index: &Text, id: &Value) -> Result
     format!(in alloc; "parallel arrays: {place} {id}\n")
 }
 
-fn tell_duplicate<R: Sink>(
-    alloc: Global,
-    ns: NsName,
-    index: Text,
-    first: Value,
-    second: Value,
-    report: &mut R,
-) -> Status
-    ensures { ((result ≡ Status.DuplicateKey ns index first second) × Tells (turn (R.end report.old) (R.end report.new)) (line_of (Status.DuplicateKey ns index first second)))
-        ⊎ ((result ≡ Status.NoMemory) × RunsOut (Status.DuplicateKey ns index first second) (turn (R.end report.old) (R.end report.new))) }
+// What an archive that can't be restored is told as.
+fn restore_line(alloc: Global, fault: &RestoreFault) -> Result<String, AllocError>
+    ensures { IfOk result (λ s. string_bytes s ≡ restore_line fault.now) }
 {
-    let text = duplicate_line(alloc, &ns, &index, &first, &second);
-    let status = Status::DuplicateKey {
-        ns,
-        index,
-        first,
-        second,
-    };
-    tell_text(report, text, status)
+    match fault {
+        RestoreFault::Metadata { ns, at } => archive_line(alloc, metadata_text(alloc, ns, *at)),
+        RestoreFault::NoId { ns } => archive_line(alloc, no_id_text(alloc, ns)),
+        RestoreFault::Entry { ts } => unreadable_line(alloc, *ts),
+        RestoreFault::Rename { ts } => operation_line(alloc, *ts, "renameCollection"),
+        RestoreFault::OtherCommand { ts, name } => operation_line(alloc, *ts, name.as_str()),
+        RestoreFault::Parallel { ns, index, id } => parallel_line(alloc, ns, index, id),
+        RestoreFault::Duplicate {
+            ns,
+            index,
+            first,
+            second,
+        } => duplicate_line(alloc, ns, index, first, second),
+        RestoreFault::NoMemory => format!(in alloc; "no memory\n"),
+    }
 }
 
-fn tell_parallel<R: Sink>(
-    alloc: Global,
-    ns: NsName,
-    index: Text,
-    id: Value,
-    report: &mut R,
-) -> Status
-    ensures { ((result ≡ Status.ParallelArrays ns index id) × Tells (turn (R.end report.old) (R.end report.new)) (line_of (Status.ParallelArrays ns index id)))
-        ⊎ ((result ≡ Status.NoMemory) × RunsOut (Status.ParallelArrays ns index id) (turn (R.end report.old) (R.end report.new))) }
+fn tell_format<R: Sink>(alloc: Global, fault: FormatFault, report: &mut R) -> Status
+    ensures { ((result ≡ Status.BadArchive fault) × Tells (turn (R.end report.old) (R.end report.new)) (line_of (Status.BadArchive fault)))
+        ⊎ ((result ≡ Status.NoMemory) × RunsOut (Status.BadArchive fault) (turn (R.end report.old) (R.end report.new))) }
 {
-    let text = parallel_line(alloc, &ns, &index, &id);
-    tell_text(report, text, Status::ParallelArrays { ns, index, id })
+    let text = archive_line(alloc, format_text(alloc, &fault));
+    tell_text(report, text, Status::BadArchive(fault))
+}
+
+fn tell_failure<R: Sink>(alloc: Global, fault: RestoreFault, report: &mut R) -> Status
+    ensures { ((result ≡ Status.NotRestored fault) × Tells (turn (R.end report.old) (R.end report.new)) (line_of (Status.NotRestored fault)))
+        ⊎ ((result ≡ Status.NoMemory) × RunsOut (Status.NotRestored fault) (turn (R.end report.old) (R.end report.new))) }
+{
+    let text = restore_line(alloc, &fault);
+    tell_text(report, text, Status::NotRestored(fault))
 }
 
 /// Tells the status on the report. A failing write changes nothing of it, and want of memory is the status then.
@@ -257,16 +268,10 @@ pub fn tell<R: Sink>(alloc: Global, status: Status, report: &mut R) -> Status
         Status::Usage { word } => {
             tell_text(report, usage_line(alloc, word), Status::Usage { word })
         }
-        Status::BadArchive(fault) => tell_refusal(alloc, fault, report),
+        Status::BadArchive(fault) => tell_format(alloc, fault, report),
+        Status::NotRestored(fault) => tell_failure(alloc, fault, report),
         Status::ReadFault => tell_line(report, b"read fault\n", Status::ReadFault),
         Status::WriteFault => tell_line(report, b"write fault\n", Status::WriteFault),
         Status::NoMemory => tell_line(report, b"no memory\n", Status::NoMemory),
-        Status::DuplicateKey {
-            ns,
-            index,
-            first,
-            second,
-        } => tell_duplicate(alloc, ns, index, first, second, report),
-        Status::ParallelArrays { ns, index, id } => tell_parallel(alloc, ns, index, id, report),
     }
 }

@@ -17,6 +17,12 @@ pub enum Verb {
 #[derive(Clone, Copy, Debug, PartialEq, Eq)]
 pub enum OptionName {
     Archive,
+    OplogReplay,
+    OplogLimit,
+    NsInclude,
+    NsExclude,
+    NsFrom,
+    NsTo,
     Form,
 }
 
@@ -47,6 +53,8 @@ pub enum Rule {
     Excludes(OptionName, OptionName),
     /// They stand equally often.
     Equal(OptionName, OptionName),
+    /// The patterns of the first have as many stars as those of the second, each as the one beside it.
+    SameStars(OptionName, OptionName),
 }
 
 impl OptionName {
@@ -56,6 +64,12 @@ impl OptionName {
     {
         match self {
             OptionName::Archive => "--archive",
+            OptionName::OplogReplay => "--oplogReplay",
+            OptionName::OplogLimit => "--oplogLimit=",
+            OptionName::NsInclude => "--nsInclude=",
+            OptionName::NsExclude => "--nsExclude=",
+            OptionName::NsFrom => "--nsFrom=",
+            OptionName::NsTo => "--nsTo=",
             OptionName::Form => "--form=",
         }
     }
@@ -93,6 +107,36 @@ impl Verb {
                     times: Times::Once,
                 },
                 OptionRow {
+                    option: OptionName::OplogReplay,
+                    kind: Kind::Nothing,
+                    times: Times::Once,
+                },
+                OptionRow {
+                    option: OptionName::OplogLimit,
+                    kind: Kind::Moment,
+                    times: Times::Once,
+                },
+                OptionRow {
+                    option: OptionName::NsInclude,
+                    kind: Kind::Pattern,
+                    times: Times::Any,
+                },
+                OptionRow {
+                    option: OptionName::NsExclude,
+                    kind: Kind::Pattern,
+                    times: Times::Any,
+                },
+                OptionRow {
+                    option: OptionName::NsFrom,
+                    kind: Kind::Pattern,
+                    times: Times::Any,
+                },
+                OptionRow {
+                    option: OptionName::NsTo,
+                    kind: Kind::Pattern,
+                    times: Times::Any,
+                },
+                OptionRow {
                     option: OptionName::Form,
                     kind: Kind::Form,
                     times: Times::Once,
@@ -107,7 +151,14 @@ impl Verb {
         ensures { result.now ≡ rules self }
     {
         match self {
-            Verb::Restore => &[Rule::Needed(OptionName::Archive)],
+            Verb::Restore => &[
+                Rule::Needed(OptionName::Archive),
+                Rule::Needs(OptionName::OplogLimit, OptionName::OplogReplay),
+                Rule::Excludes(OptionName::NsFrom, OptionName::OplogReplay),
+                Rule::Excludes(OptionName::NsTo, OptionName::OplogReplay),
+                Rule::Equal(OptionName::NsFrom, OptionName::NsTo),
+                Rule::SameStars(OptionName::NsFrom, OptionName::NsTo),
+            ],
             Verb::Help | Verb::Version => &[],
         }
     }

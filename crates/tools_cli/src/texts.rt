@@ -1,15 +1,26 @@
 //! What `--help` and `--version` show.
 
 pub const HELP: &str = "\
-usage: suzhimanu restore --archive [--form=hex|--form=json] < ARCHIVE
+usage: suzhimanu restore --archive [OPTION..] < ARCHIVE
        suzhimanu --help
        suzhimanu --version
 
 restore  reads an archive from standard input and lists what it restores
 
-  --archive    the input is an archive (needed)
-  --form=hex   documents are listed by their bytes, in hexadecimal
-  --form=json  documents are listed as canonical Extended JSON, which is the form where none is given
+  --archive       the input is an archive (needed)
+  --oplogReplay   the entries of the archive's oplog are replayed on its collections
+  --oplogLimit=S[:I]
+                  entries at this second and ordinal, 0 where none is given, and later ones aren't replayed;
+                  only beside --oplogReplay
+  --nsInclude=P   only collections db.collection that a pattern takes are restored; may stand more than once
+  --nsExclude=P   collections that a pattern takes aren't restored; may stand more than once
+  --nsFrom=P --nsTo=P
+                  a collection that the first pattern takes is restored under the name that the second makes with
+                  what the stars stand for; may stand more than once, in pairs, and not beside --oplogReplay
+  --form=hex      documents are listed by their bytes, in hexadecimal
+  --form=json     documents are listed as canonical Extended JSON, which is the form where none is given
+
+In a pattern * stands for any characters, and \\ takes the next character as it stands.
 ";
 
 pub const VERSION: &str = "suzhimanu 0.1.0\n";

@@ -40,7 +40,7 @@ fn perform<S: Source, K: Sink, R: Sink>(
         (turn (R.end report.old) (R.end report.new)) }
 {
     match order {
-        Order::Restore(order) => list_archive(alloc, &order, input, output),
+        Order::Restore(order) => list_archive(alloc, order, input, output),
         Order::Help => show(HELP, output),
         Order::Version => show(VERSION, output),
     }

@@ -1,6 +1,7 @@
 //! The values that stand in options' words directly behind their names.
 ghost use Rattle.std.specs.Prelude.{◌≡◌, IfOk, option_map};
-ghost use Rattle.tools_cli.specs.Values.{number_of, moment_of, form_of, nothing_of, pattern_of, value_of, is_hex};
+ghost use Rattle.tools_cli.specs.Values.{number_of, moment_of, form_of, nothing_of, pattern_of, value_of, is_hex, moment_in, pattern_in};
+ghost use Rattle.std.specs.Option.{option_copied};
 
 use bson_value::Ts;
 use document_lines::ListForm;
@@ -34,6 +35,36 @@ impl Value {
         ensures { result ≡ is_hex self.now }
     {
         matches!(self, Value::Form(ListForm::Hex))
+    }
+
+    /// The moment that it is, if it is one.
+    pub fn moment(&self) -> Option<Ts>
+        ensures { result ≡ moment_in self.now }
+    {
+        match self {
+            Value::Moment(ts) => Some(*ts),
+            _ => None,
+        }
+    }
+
+    /// The pattern that it is, if it is one.
+    pub fn pattern(&self) -> Option<&Pattern>
+        ensures { option_copied result ≡ pattern_in self.now }
+    {
+        match self {
+            Value::Pattern(pattern) => Some(pattern),
+            _ => None,
+        }
+    }
+
+    /// The pattern that it is, if it is one.
+    pub fn into_pattern(self) -> Option<Pattern>
+        ensures { result ≡ pattern_in self }
+    {
+        match self {
+            Value::Pattern(pattern) => Some(pattern),
+            _ => None,
+        }
     }
 }
 

@@ -1,13 +1,16 @@
 //! The words of the command line.
-ghost use Rattle.std.specs.Prelude.{◌≡◌, ◌+◌, ◌<◌, ◌^◌, [], length, option_map, IfOk, Ok, Err};
+ghost use Rattle.std.specs.Prelude.{◌≡◌, ◌+◌, ◌<◌, ◌^◌, [], length, option_map, IfOk, Ok, Err, true};
 ghost use Rattle.std.specs.List.{list_any, list_all};
 ghost use Rattle.tools_cli.specs.Values.{is_hex};
-ghost use Rattle.tools_cli.specs.Words.{behind, given_in, first_row, may_stand, option_at, times_given, holds, hold, form_of, order_of, step, meaning_behind, meaning_of, same_option, options, rules, texts_of, Means};
+ghost use Rattle.tools_cli.specs.Words.{behind, given_in, first_row, may_stand, option_at, times_given, holds, hold, form_of, limit_of, order_of, step, meaning_behind, meaning_of, same_option, options, rules, texts_of, Means};
 
+use crate::filter::{filter_of, have_same_stars};
 use crate::order::{Order, RestoreOrder};
 use crate::table::{OptionName, OptionRow, Rule, Times, Verb};
 use crate::value::{Value, value_of};
+use bson_value::Ts;
 use document_lines::ListForm;
+use restore_plan::Plan;
 use std::alloc::{AllocError, AllocFailed, Global};
 
 /// An option that stands, with its value.
@@ -125,6 +128,7 @@ fn holds(rule: Rule, given: &[Given]) -> bool
             times_given(option, given) == 0 || times_given(other, given) == 0
         }
         Rule::Equal(option, other) => times_given(option, given) == times_given(other, given),
+        Rule::SameStars(option, other) => have_same_stars(option, other, given),
     }
 }
 
@@ -150,15 +154,40 @@ fn form_of(given: &[Given]) -> ListForm
     }
 }
 
-fn order_of(verb: Verb, given: &[Given]) -> Order
-    ensures { result ≡ order_of verb given.now }
+fn limit_of(given: &[Given]) -> Option<Ts>
+    ensures { result ≡ limit_of given.now }
+{
+    let mut rest = given;
+    'options: while let Some((next, behind)) = rest.split_first() {
+        if let Some(limit) = next.value.moment() {
+            return Some(limit);
+        }
+        rest = behind;
+    }
+    None
+}
+
+fn order_of(alloc: Global, verb: Verb, given: Vec<Given>) -> Result<Order, AllocError>
+    requires { hold verb given.items ≡ true }
+    ensures { IfOk result (λ o. o ≡ order_of verb given.items) }
 {
     match verb {
-        Verb::Restore => Order::Restore(RestoreOrder {
-            form: form_of(given),
-        }),
-        Verb::Help => Order::Help,
-        Verb::Version => Order::Version,
+        Verb::Restore => {
+            let form = form_of(&given);
+            let limit = limit_of(&given);
+            let replaying = times_given(OptionName::OplogReplay, &given) != 0;
+            let filter = filter_of(alloc, given)?;
+            Ok(Order::Restore(RestoreOrder {
+                plan: Plan {
+                    filter,
+                    replaying,
+                    limit,
+                },
+                form,
+            }))
+        }
+        Verb::Help => Ok(Order::Help),
+        Verb::Version => Ok(Order::Version),
     }
 }
 
@@ -178,7 +207,7 @@ fn read_behind(alloc: Global, verb: Verb, words: &[String]) -> Result<Order, Wor
         rest = behind;
     }
     if hold(verb, &given) {
-        Ok(order_of(verb, &given))
+        Ok(order_of(alloc, verb, given)?)
     } else {
         Err(WordsFault::Usage { word: at })
     }

@@ -1,9 +1,10 @@
 use Rattle.std.proofs.Common.{refl, sym, subst}
 use Rattle.std.specs.Prelude.{Ok}
 use Rattle.tools_cli.specs.declared.order.Order.{Order}
+use Rattle.tools_cli.specs.declared.texts.TheConstants.{HELP}
 use Rattle.tools_cli.specs.Ends.{turn}
 use Rattle.tools_cli.specs.Answers.{Says}
-use Rattle.tools_cli.proofs.Due.{restore_says}
+use Rattle.tools_cli.proofs.Due.{restore_says, show_says}
 use Rattle.tools_cli.proofs.top.perform.Goals as goal
 
 pub returns-in-Restore : goal.returns-in-Restore
@@ -13,3 +14,11 @@ returns-in-Restore g c =
     let report = turn (g.R.Sink.end c.args.report.now) (g.R.Sink.end c.args.report.now) in
     let P : Order → Type 0 = λ order. Says (Ok order) c.list_archive.result input output report in
     subst P (sym c.in-Restore.is) (restore_says c.in-Restore.order c.list_archive.result input output report c.list_archive.ensures refl)
+
+pub returns-in-Help : goal.returns-in-Help
+returns-in-Help g c =
+    let input = g.S.Source.end c.args.input.now in
+    let output = turn (g.K.Sink.end c.args.output.now) (g.K.Sink.end c.show.new.output) in
+    let report = g.R.Sink.end c.args.report.now in
+    let P : Order → Type 0 = λ order. Says (Ok order) c.show.result (turn input input) output (turn report report) in
+    subst P (sym c.in-Help.is) (show_says HELP.now c.show.result input output report c.show.ensures)

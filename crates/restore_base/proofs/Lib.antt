@@ -1,5 +1,0 @@
-pub mod Outcomes
-mod Fronts
-mod Texts
-mod Steps
-mod Definitions

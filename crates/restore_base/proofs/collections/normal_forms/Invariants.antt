@@ -1,9 +1,0 @@
-use Rattle.std.proofs.Common.{◌≡◌, ◌++◌, length}
-use Rattle.restore_base.specs.Base.{normal_forms}
-use Rattle.restore_base.proofs.collections.normal_forms.Given as goal
-
-abbrev pub invariant-loop-def : goal.invariant-loop-def
-invariant-loop-def l = l.forms.items ++ normal_forms l.left ≡ normal_forms l.defs
-
-abbrev pub decreases-loop-def : goal.decreases-loop-def
-decreases-loop-def l = length l.left

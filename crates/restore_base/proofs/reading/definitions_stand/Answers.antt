@@ -1,5 +1,0 @@
-use Rattle.restore_base.proofs.Definitions.{definitions_stand}
-use Rattle.restore_base.proofs.reading.definitions_stand.Goals as goal
-
-pub returns : goal.returns
-returns c = definitions_stand

@@ -1,0 +1,168 @@
+-- What a taking makes of a state, and of what was made of the takings before it.
+use Rattle.std.proofs.Common.{◌≡◌, ℕ, Bool, true, false, cond, List, [], ◌∷◌, ◌++◌, refl, sym, ap, ◌∙◌, append-nil}
+use Rattle.std.specs.Prelude.{Option, Some, None, Result, Ok, Err, OnOk, OnErr, IsOk, IsErr, not, ◌&&◌, is_some, option_map}
+use Rattle.std.specs.Result.{result_unwrap_or}
+use Rattle.std.specs.FinMap as map
+use Rattle.bson_value.specs.declared.namespace.NsName.{NsName}
+use Rattle.bson_value.specs.declared.value.Ts.{Ts}
+use Rattle.bson_value.specs.declared.value.Value.{Object}
+use Rattle.bson_value.specs.NamespaceOrder.{namespace_cmp}
+use Rattle.json_tree.specs.declared.tree.Tree.{Tree}
+use Rattle.bson_check.specs.Faults.{first_fault}
+use Rattle.bson_view.specs.Meaning.{document_in}
+use Rattle.bson_view.proofs.Meanings.{faultless_read}
+use Rattle.archive_format.specs.Shapes.{is_oplog}
+use Rattle.archive_format.specs.Archive.{Taking, meta, doc, end, fault_in, fields_of}
+use Rattle.metadata_text.specs.Metadata.{metadata_of, Meta}
+use Rattle.state_model.specs.States.{State, Collection, no_options, fresh_collection}
+use Rattle.state_model.proofs.Maps.{ns_map_same}
+use Rattle.state_model.specs.Moves.{Put}
+use Rattle.state_model.specs.Replay.{replay}
+use Rattle.coll_state.specs.Rows.{Document, Rows, key_in, id_of, collection_of, state_of}
+use Rattle.coll_state.specs.Changes.{no_rows, put, describe, create}
+use Rattle.coll_state.specs.Laws.{PutIsMove, CreateIsMove, DescribedAnew}
+use Rattle.coll_state.proofs.Links.{collection_in, get_collection}
+use Rattle.entry_model.specs.declared.entry.Entry.{Entry}
+use Rattle.restore_filter.specs.Names.{takes, new_name}
+use Rattle.restore_entries.specs.declared.reading.EntryReading.{EntryReading}
+use Rattle.restore_entries.specs.declared.reading.EntryReading.TheVariants.{Passed, Kept, Unreadable}
+use Rattle.restore_plan.specs.declared.plan.Plan.{Plan}
+use Rattle.restore_plan.specs.Base.{ns_of, is_of_base, named_step, base_step, described_in, made, document_taken, has_id, normal_forms, options_in, definitions_in, oplog_reading, kept_in, entries_in, metadata_fault, id_fault, entry_fault, bad_at}
+use Rattle.restore_plan.specs.Taken.{Contents, with_taking, unless_bad, and_taking}
+
+-- ---- one taking
+
+-- what is made of these contents by a taking that isn't refused
+pub taken : (p : Plan) (c d : Contents) (t : Taking) → bad_at p t ≡ None → d.state ≡ (cond (is_of_base p t) (base_step p c.state t) c.state) → d.entries ≡ c.entries ++ entries_in p t → Some d ≡ and_taking p (Some c) t
+taken p c d t fine state entries =
+    let same : d ≡ with_taking p c t = λ i. record { state = state i; entries = entries i } in
+    ap Some same ∙ ap (λ o. unless_bad o (with_taking p c t)) (sym fine)
+
+-- nothing changes
+still : (c : Contents) (es : List Entry) → es ≡ [] → c.entries ≡ c.entries ++ es
+still c es e = sym (append-nil c.entries) ∙ ap (λ x. c.entries ++ x) (sym e)
+
+of_oplog : (p : Plan) (t : Taking) (s u : State) → is_oplog (ns_of t) ≡ true → u ≡ cond (is_of_base p t) s u
+of_oplog p t s u e = ap (λ b. cond (not b && takes p.filter (ns_of t)) s u) (sym e)
+
+of_collection : (p : Plan) (t : Taking) (s u v : State) → is_oplog (ns_of t) ≡ false → v ≡ cond (takes p.filter (ns_of t)) s u → v ≡ cond (is_of_base p t) s u
+of_collection p t s u v e f = f ∙ ap (λ b. cond (not b && takes p.filter (ns_of t)) s u) (sym e)
+
+pub oplog_meta : (p : Plan) (c : Contents) (n : NsName) (t : List ℕ) → is_oplog n ≡ true → Some c ≡ and_taking p (Some c) (meta n t)
+oplog_meta p c n t e =
+    taken p c c (meta n t) (ap (λ b. cond b None (metadata_fault n (metadata_of t))) e) (of_oplog p (meta n t) (base_step p c.state (meta n t)) c.state e) (still c [] refl)
+
+pub oplog_end : (p : Plan) (c : Contents) (n : NsName) → is_oplog n ≡ true → Some c ≡ and_taking p (Some c) (end n)
+oplog_end p c n e = taken p c c (end n) refl (of_oplog p (end n) (base_step p c.state (end n)) c.state e) (still c [] refl)
+
+-- a document of the oplog, by what it is to the restore
+oplog_fault : (p : Plan) (n : NsName) (b : List ℕ) (r : EntryReading) → is_oplog n ≡ true → r ≡ oplog_reading p b → bad_at p (doc n b) ≡ entry_fault r
+oplog_fault p n b r e is = ap (λ x. cond x (entry_fault (oplog_reading p b)) (id_fault n (has_id (document_taken b)))) e ∙ ap entry_fault (sym is)
+
+oplog_entries : (p : Plan) (n : NsName) (b : List ℕ) (r : EntryReading) → is_oplog n ≡ true → r ≡ oplog_reading p b → entries_in p (doc n b) ≡ kept_in r
+oplog_entries p n b r e is = ap (λ x. cond x (kept_in (oplog_reading p b)) []) e ∙ ap kept_in (sym is)
+
+pub oplog_passed : (p : Plan) (c : Contents) (n : NsName) (b : List ℕ) (r : EntryReading) → is_oplog n ≡ true → r ≡ oplog_reading p b → r ≡ Passed → Some c ≡ and_taking p (Some c) (doc n b)
+oplog_passed p c n b r e is passed =
+    taken p c c (doc n b) (oplog_fault p n b r e is ∙ ap entry_fault passed) (of_oplog p (doc n b) (base_step p c.state (doc n b)) c.state e) (still c (entries_in p (doc n b)) (oplog_entries p n b r e is ∙ ap kept_in passed))
+
+pub oplog_kept : (p : Plan) (c d : Contents) (n : NsName) (b : List ℕ) (r : EntryReading) (x : Entry) → is_oplog n ≡ true → r ≡ oplog_reading p b → r ≡ Kept x → d.state ≡ c.state → d.entries ≡ c.entries ++ (x ∷ []) → Some d ≡ and_taking p (Some c) (doc n b)
+oplog_kept p c d n b r x e is kept state entries =
+    taken p c d (doc n b) (oplog_fault p n b r e is ∙ ap entry_fault kept) (state ∙ of_oplog p (doc n b) (base_step p c.state (doc n b)) c.state e)
+    (entries ∙ ap (λ (es : List Entry). c.entries ++ es) (sym (oplog_entries p n b r e is ∙ ap kept_in kept)))
+
+pub oplog_unread : (p : Plan) (n : NsName) (b : List ℕ) (r : EntryReading) (ts : Option Ts) → is_oplog n ≡ true → r ≡ oplog_reading p b → r ≡ Unreadable ts → bad_at p (doc n b) ≡ entry_fault (Unreadable ts)
+oplog_unread p n b r ts e is unread = oplog_fault p n b r e is ∙ ap entry_fault unread
+
+-- takings of collections
+
+pub meta_taken : (p : Plan) (c d : Contents) (n : NsName) (t : List ℕ) (o : Tree) (ds : List Tree) → is_oplog n ≡ false → metadata_of t ≡ Ok (o, ds) → d.state ≡ cond (takes p.filter n) (described_in c.state (new_name p.filter n) o (normal_forms ds)) c.state → d.entries ≡ c.entries
+    → Some d ≡ and_taking p (Some c) (meta n t)
+meta_taken p c d n t o ds e is state entries =
+    let fine : bad_at p (meta n t) ≡ None = ap (λ b. cond b None (metadata_fault n (metadata_of t))) e ∙ ap (metadata_fault n) is in
+    taken p c d (meta n t) fine
+    (of_collection p (meta n t) (base_step p c.state (meta n t)) c.state d.state e
+    (state ∙ ap (λ (m : Meta). cond (takes p.filter n) (described_in c.state (new_name p.filter n) (options_in m) (definitions_in m)) c.state) (sym is)))
+    (entries ∙ still c [] refl)
+
+pub doc_taken : (p : Plan) (c d : Contents) (n : NsName) (b : List ℕ) → is_oplog n ≡ false → has_id (document_taken b) ≡ true → d.state ≡ cond (takes p.filter n) (named_step (new_name p.filter n) c.state (doc n b)) c.state → d.entries ≡ c.entries
+    → Some d ≡ and_taking p (Some c) (doc n b)
+doc_taken p c d n b e has state entries =
+    let fine : bad_at p (doc n b) ≡ None = ap (λ x. cond x (entry_fault (oplog_reading p b)) (id_fault n (has_id (document_taken b)))) e ∙ ap (id_fault n) has in
+    let none : entries_in p (doc n b) ≡ [] = ap (λ x. cond x (kept_in (oplog_reading p b)) []) e in
+    taken p c d (doc n b) fine (of_collection p (doc n b) (base_step p c.state (doc n b)) c.state d.state e state) (entries ∙ still c (entries_in p (doc n b)) none)
+
+pub end_taken : (p : Plan) (c d : Contents) (n : NsName) → is_oplog n ≡ false → d.state ≡ cond (takes p.filter n) (named_step (new_name p.filter n) c.state (end n)) c.state → d.entries ≡ c.entries → Some d ≡ and_taking p (Some c) (end n)
+end_taken p c d n e state entries =
+    taken p c d (end n) refl (of_collection p (end n) (base_step p c.state (end n)) c.state d.state e state) (entries ∙ still c [] refl)
+
+-- ---- the calls on rows
+
+-- the document that a taking's bytes spell is the one that they mean
+pub taken_is : (b : List ℕ) → fault_in b ≡ None → document_taken b ≡ document_in b
+unfolding fault_in fields_of first_fault
+taken_is b e = ap (λ r. result_unwrap_or r []) (faultless_read 16793600 200 b e)
+
+pub put_made : (s u : Rows) (n : NsName) (b : List ℕ) (d : Document) → PutIsMove → d ≡ document_taken b → u ≡ put n d s → state_of u ≡ named_step n (state_of s) (doc n b)
+put_made s u n b d law is e =
+    ap state_of e ∙ law n (key_in (id_of d)) d s ∙ ap (λ (x : Document). replay (Put n (key_in (id_of x)) (Object x)) (state_of s)) is
+
+pub describe_made : (s u : Rows) (n : NsName) (o : Tree) (ds defs : List Tree) → DescribedAnew → ds ≡ normal_forms defs → u ≡ describe n o ds s → state_of u ≡ described_in (state_of s) n o (normal_forms defs)
+describe_made s u n o ds defs law is e = ap state_of e ∙ law n o ds s ∙ ap (described_in (state_of s) n o) is
+
+-- a collection that is there
+there : (s : State) (n : NsName) (c : Option Collection) (b : Bool) → is_some c ≡ b → b ≡ true → made n c s ≡ s
+there s n None b e f = absurd cc
+there s n (Some c) b e f = refl
+
+missing : (s : State) (n : NsName) (c : Option Collection) (b : Bool) → is_some c ≡ b → b ≡ false → made n c s ≡ map.insert s n (fresh_collection no_options)
+missing s n None b e f = refl
+missing s n (Some c) b e f = absurd cc
+
+some_same : {A B : Type 0} (f : A → B) (o : Option A) → is_some (option_map f o) ≡ is_some o
+some_same f None = refl
+some_same f (Some x) = refl
+
+has_is : (s : Rows) (n : NsName) → is_some (map.get (state_of s) n) ≡ is_some (map.get s.tables n)
+has_is s n = ap is_some (get_collection s n) ∙ some_same collection_of (map.get s.tables n)
+
+pub made_there : (s : Rows) (n : NsName) (b : Bool) → b ≡ map.contains_key s.tables n → b ≡ true → state_of s ≡ named_step n (state_of s) (end n)
+made_there s n b e f = sym (there (state_of s) n (map.get (state_of s) n) b (has_is s n ∙ sym e) f)
+
+pub made_new : (s u : Rows) (n : NsName) (b : Bool) (o : Tree) → CreateIsMove → b ≡ map.contains_key s.tables n → b ≡ false → o ≡ no_options → u ≡ create n o s → state_of u ≡ named_step n (state_of s) (end n)
+made_new s u n b o law e f is g =
+    ap state_of g ∙ law n o s ∙ ap (λ x. map.insert (state_of s) n (fresh_collection x)) is ∙ sym (missing (state_of s) n (map.get (state_of s) n) b (has_is s n ∙ sym e) f)
+
+-- ---- what a filter doesn't take
+
+-- a step under a new name, where the filter takes it
+pub named : (b : Bool) (m n : NsName) (s u : State) (step : NsName → State) → b ≡ true → m ≡ n → u ≡ step m → u ≡ cond b (step n) s
+named b m n s u step e is f = f ∙ (ap step is ∙ ap (λ x. cond x (step n) s) (sym e))
+
+pub passed_over : (b : Bool) (s t : State) → b ≡ false → s ≡ cond b t s
+passed_over b s t e = ap (λ x. cond x t s) (sym e)
+
+-- ---- what a call answers
+
+pub on_ok : {A B P Q : Type 0} (r : Result A B) → (P → Q) → OnOk r P → OnOk r Q
+on_ok (Ok a) f p = f p
+on_ok (Err e) f p = tt
+
+-- what is told of a call that was Ok, or wasn't
+pub told_ok : {A B C D : Type 0} (P : Type 0) (r : Result A B) (t : Result C D) → OnOk r (IsOk t) → OnOk t P → OnOk r P
+told_ok P (Ok a) (Ok c) i h = h
+told_ok P (Ok a) (Err d) i h = absurd cc
+told_ok P (Err b) t i h = tt
+
+pub told_err : {A B C D : Type 0} (P : Type 0) (r : Result A B) (t : Result C D) → OnErr r (IsErr t) → OnErr t P → OnErr r P
+told_err P (Err b) (Err d) i h = h
+told_err P (Err b) (Ok c) i h = absurd cc
+told_err P (Ok a) t i h = tt
+
+pub both_ok : {A B : Type 0} (P Q R : Type 0) (r : Result A B) → OnOk r P → OnOk r Q → (P → Q → R) → OnOk r R
+both_ok P Q R (Ok a) p q f = f p q
+both_ok P Q R (Err b) p q f = tt
+
+-- before the first taking
+pub nothing_made : state_of no_rows ≡ map.empty
+nothing_made = ns_map_same _ _ (λ q. get_collection no_rows q ∙ (ap collection_in (map.get-empty namespace_cmp q) ∙ sym (map.get-empty namespace_cmp q)))
