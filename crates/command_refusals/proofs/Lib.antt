@@ -1,0 +1,5 @@
+pub mod Shared
+pub mod Rows
+pub mod DocumentRows
+pub mod Putting
+pub mod RowTests
