@@ -1,11 +1,12 @@
 #!/usr/bin/env python3
 """Proves and builds the program, with crates that don't stand on each other side by side.
 
-rt works on one crate of a checkout at a time. So each lane works in a copy of the sources of its own, and rt hands
-a library that one copy has built on to the others. A run that was ended goes on where it was, since the copies
-stay until all is built, and rt proves nothing again whose text is as it was. A second run waits for the first.
+rt works on one crate of a checkout at a time. So each crate is proved in a copy of the sources of its own, where the
+libraries below it lie built already, and its library is put into the repository, from where the crates above get it.
+A run that was ended goes on where it was: the libraries that it put there are taken, and rt goes on in the copies of
+the other crates. A second run waits for the first.
 
-SUZHIMANU_LANES=N takes N lanes in place of one for each processor (and 2.5 GB of free memory).
+SUZHIMANU_LANES=N proves N crates at a time in place of one for each processor (and 2.5 GB of free memory).
 """
 
 import fcntl
@@ -18,6 +19,7 @@ import sys
 import tempfile
 import time
 from concurrent.futures import FIRST_COMPLETED, ThreadPoolExecutor, wait
+from contextlib import suppress
 from pathlib import Path
 
 ROOT = Path(__file__).resolve().parent.parent
@@ -32,27 +34,26 @@ def say(text):
 
 
 def crates_below(top):
-    """Returns the crates that `top` stands on and itself, lowest first, each with those that it names."""
-    named = {}
+    """Returns the crates that `top` stands on and itself, lowest first, each with its line of crates.txt."""
+    lines, order = {}, {}
     for line in (ROOT / "crates.txt").read_text().splitlines():
         name, colon, below = line.partition("#")[0].partition(":")
         if colon:
-            named[name.split()[0]] = below.split()
-    order = {}
+            lines[name.split()[0]] = line, below.split()
 
     def visit(name):
-        if name not in order:
-            below = [it for it in named[name] if it in named]
-            for it in below:
+        line, below = lines[name]
+        for it in below:
+            if it in lines and it not in order:
                 visit(it)
-            order[name] = below
+        order[name] = line
 
     visit(top)
     return order
 
 
 def files_of(crates):
-    """Returns the files that the program is made from, in one order."""
+    """Returns the files that crates are made from, in one order."""
     folders = [ROOT / "crates" / name / part for name in crates for part in PARTS]
     found = (it for folder in folders for it in folder.rglob("*") if it.is_file())
     return [ROOT / "crates.txt", *sorted(found)]
@@ -66,20 +67,21 @@ def sum_of(files):
     return sum.hexdigest()
 
 
+def text_of(file):
+    return file.read_text() if file.exists() else None
+
+
 def is_built(files):
     """Returns whether the program is built from these files: none is newer, or all hold what they held."""
     if not os.access(PROGRAM, os.X_OK):
         return False
-    made = PROGRAM.stat().st_mtime
-    if all(it.stat().st_mtime <= made for it in files):
-        # (the gate notes no sum)
-        SUM.write_text(sum_of(files))
-        return True
-    if SUM.exists() and SUM.read_text() == sum_of(files):
+    made, sum = PROGRAM.stat().st_mtime, sum_of(files)
+    # (the gate notes no sum)
+    is_same = text_of(SUM) == sum or all(it.stat().st_mtime <= made for it in files)
+    if is_same:
         os.utime(PROGRAM)
-        os.utime(SUM)
-        return True
-    return False
+        SUM.write_text(sum)
+    return is_same
 
 
 def lanes_here():
@@ -91,130 +93,140 @@ def lanes_here():
     return max(1, min(len(os.sched_getaffinity(0)), free // 2_500_000))
 
 
-class Copies:
-    """Copies of the sources, one a lane. They lie in git's folder, where no tool takes them for the repository's."""
+def put(made, crate):
+    """Puts what was made of a crate into its folder in another checkout, whole or not at all, while no rt works there."""
+    to = crate / "out" / made.name
+    part, old = to.with_suffix(".part"), to.with_suffix(".old")
+    folder = os.open(crate, os.O_RDONLY)
+    try:
+        fcntl.flock(folder, fcntl.LOCK_EX)
+        to.parent.mkdir(exist_ok=True)
+        for it in (part, old):
+            shutil.rmtree(it, ignore_errors=True)
+        if made.is_dir():
+            # (links where the two lie on one file system)
+            is_near = made.stat().st_dev == crate.stat().st_dev
+            shutil.copytree(made, part, copy_function=os.link if is_near else shutil.copy2)
+        else:
+            shutil.copy2(made, part)
+        if to.is_dir():
+            to.rename(old)
+        part.rename(to)
+        shutil.rmtree(old, ignore_errors=True)
+    finally:
+        os.close(folder)
 
-    def __init__(self, crates):
-        self.crates = crates
+
+class Copies:
+    """A copy of the sources for each crate, in git's folder where there is one."""
+
+    def __init__(self, lock):
         git = ROOT / ".git"
         name = f"suzhimanu-{os.getuid()}-{hashlib.sha256(str(ROOT).encode()).hexdigest()[:12]}"
         self.home = git / "lanes" if git.is_dir() else Path(tempfile.gettempdir()) / name
         self.home.mkdir(mode=0o700, exist_ok=True)
-        self.running = set()
+        # (rt looks for no crates of the repository where that file stands)
+        (self.home / "MODULE.bazel").touch()
+        self.lock, self.running = lock, set()
+        self.kit = subprocess.run(["rt", "version"], capture_output=True, text=True).stdout.strip()
 
-    def make(self, lane):
-        """Makes the copy of a lane, or brings one that an ended run left up to date."""
-        copy = self.home / str(lane)
-        for name in self.crates:
+    def make(self, name):
+        """Makes the copy for a crate, or brings one that an ended run left up to date."""
+        copy = self.home / name
+        crates = crates_below(name)
+        for it in crates:
+            ours, theirs = ROOT / "crates" / it, copy / "crates" / it
             for part in PARTS:
-                ours, theirs = ROOT / "crates" / name / part, copy / "crates" / name / part
-                shutil.rmtree(theirs, ignore_errors=True)
-                if ours.is_dir():
-                    shutil.copytree(ours, theirs)
-        # (rt wants a folder for each crate that is named)
-        lines = (ROOT / "crates.txt").read_text().splitlines(keepends=True)
-        (copy / "crates.txt").write_text("".join(it for it in lines if it.partition(":")[0].strip() in self.crates))
+                shutil.rmtree(theirs / part, ignore_errors=True)
+                if (ours / part).is_dir():
+                    shutil.copytree(ours / part, theirs / part)
+            # (rt tells by its stamp whether a library is built from what stands there)
+            stamp = text_of(ours / "out/rlib/stamp")
+            if stamp and stamp != text_of(theirs / "out/rlib/stamp"):
+                put(ours / "out/rlib", theirs)
+        (copy / "crates.txt").write_text("".join(f"{it}\n" for it in crates.values()))
         shutil.copy(ROOT / "HANDLES", copy / "HANDLES")
+        return copy / "crates" / name
 
-    def prove(self, lane, name, jobs):
-        """Proves a crate in a lane's copy, and returns how many seconds it took, or None where it isn't proved."""
-        began = time.monotonic()
-        folder = self.home / str(lane) / "crates" / name
-        with open(self.log(name), "w") as log:
-            command = ["rt", "lib", "--jobs", str(jobs)]
-            run = subprocess.Popen(command, cwd=folder, stdin=subprocess.DEVNULL, stdout=log, stderr=log, start_new_session=True)
+    def prove(self, name, jobs):
+        """Proves a crate, and returns how many seconds it took, or None where it isn't proved."""
+        began, kept = time.monotonic(), ROOT / "crates" / name / "out/rlib/sources"
+        sum = f"{self.kit} {sum_of(files_of(crates_below(name)))}"
+        if text_of(kept) == sum:
+            return 0
+        crate, is_program = self.make(name), name == PROGRAM.name
+        command = ["rt", "run" if is_program else "lib", "--jobs", str(jobs), *["--", "--version"] * is_program]
+        with open(self.home / f"{name}.log", "w") as log:
+            # (what a killed run leaves at work holds the lock too, so that the next one waits for its end)
+            how = {"pass_fds": [self.lock.fileno()], "start_new_session": True}
+            run = subprocess.Popen(command, cwd=crate, stdin=subprocess.DEVNULL, stdout=log, stderr=log, **how)
         self.running.add(run)
         status = run.wait()
         self.running.discard(run)
-        return None if status else time.monotonic() - began
-
-    def log(self, name):
-        return self.home / f"{name}.log"
+        if status:
+            return None
+        made = crate / "out" / (PROGRAM.name if is_program else "rlib")
+        if made.is_dir():
+            (made / kept.name).write_text(sum)
+        if made.exists():
+            put(made, ROOT / "crates" / name)
+        return time.monotonic() - began
 
     def end(self):
         """Ends the proofs that run, with all that they started."""
         for run in [*self.running]:
-            try:
+            with suppress(ProcessLookupError):
                 os.killpg(run.pid, signal.SIGTERM)
-            except ProcessLookupError:
-                pass
-
-    def remove(self):
-        shutil.rmtree(self.home, ignore_errors=True)
 
 
-def behind(crates):
-    """Returns for each crate how much text stands on the longest way from it to the top: what is begun first."""
+def prove_all(crates, copies, lanes):
+    """Proves each crate as soon as those below it are proved, the program last. Returns whether all are."""
+    began = time.monotonic()
+    below = {it: {*crates_below(it)} - {it} for it in crates}
+    # How much text stands on the longest way from a crate to the top: what is begun first.
     size = {it: sum(file.stat().st_size for file in files_of([it])) for it in crates}
-    much = dict(size)
+    behind = dict(size)
     for name in reversed(crates):
-        for below in crates[name]:
-            much[below] = max(much[below], size[below] + much[name])
-    return much
-
-
-def prove_libraries(crates, copies, lanes, began):
-    """Proves each library as soon as those below it are proved. Returns whether all are."""
-    much = behind(crates)
-    left = sorted((it for it in crates if it != "suzhimanu"), key=lambda it: -much[it])
-    proved, running = [], {}
-    idle, free = lanes, list(range(lanes))
-    for lane in free:
-        copies.make(lane)
+        for it in below[name]:
+            behind[it] = max(behind[it], size[it] + behind[name])
+    left = sorted(crates, key=lambda it: -behind[it])
+    proved, running, idle = set(), {}, lanes
     with ThreadPoolExecutor(lanes) as pool:
         while left or running:
-            ready = [it for it in left if all(below in proved for below in crates[it])]
-            for at, name in enumerate(ready):
-                if idle == 0:
-                    break
+            ready = [it for it in left if below[it] <= proved]
+            for at, name in enumerate(ready[:idle]):
                 # (a crate gets the processors that no other waits for)
                 jobs = min(4, max(1, idle // (len(ready) - at)))
                 idle -= jobs
                 left.remove(name)
-                lane = free.pop()
-                running[pool.submit(copies.prove, lane, name, jobs)] = name, lane, jobs
+                running[pool.submit(copies.prove, name, jobs)] = name, jobs
             for done in wait(running, return_when=FIRST_COMPLETED).done:
-                name, lane, jobs = running.pop(done)
+                name, jobs = running.pop(done)
                 idle += jobs
-                free.append(lane)
                 seconds = done.result()
                 if seconds is None:
                     say(f"{name} isn't proved:")
-                    sys.stderr.write(copies.log(name).read_text()[-4000:])
+                    sys.stderr.write((copies.home / f"{name}.log").read_text()[-4000:])
                     copies.end()
                     return False
-                proved.append(name)
-                others = ", ".join(it for it, _, _ in running.values())
-                say(
-                    f"{len(proved)} of {len(crates)}: {name} is proved, {seconds:.0f} s"
-                    f" ({(time.monotonic() - began) / 60:.1f} min in all); {len(left) + 1} to begin"
-                    + (f", now {others}" if others else "")
-                )
+                proved.add(name)
+                minutes, now = (time.monotonic() - began) / 60, ", ".join(it for it, _ in running.values())
+                said = f"{len(proved)} of {len(crates)}: {name} is proved, {seconds:.0f} s ({minutes:.1f} min in all)"
+                say(f"{said}; {len(left)} to begin" + (f", now {now}" if now else ""))
     return True
 
 
-def build(crates, files):
-    began, at, sum = time.monotonic(), time.time(), sum_of(files)
-    lanes = lanes_here()
-    copies = Copies(crates)
+def build(crates, files, lock):
+    at, sum, lanes, copies = time.time(), sum_of(files), lanes_here(), Copies(lock)
     say(f"proving and building the program, once: {len(crates)} crates, on {lanes} processors, in some minutes")
     stop = lambda number, _: (copies.end(), os._exit(128 + number))
     for number in (signal.SIGINT, signal.SIGTERM, signal.SIGHUP):
         signal.signal(number, stop)
-    if not prove_libraries(crates, copies, lanes, began):
-        return False
-    # (takes the libraries of the copies, proves the crate of the program and links it)
-    run = subprocess.run(
-        ["rt", "run", "--", "--version"], cwd=ROOT / "crates/suzhimanu", stdin=subprocess.DEVNULL, capture_output=True, text=True
-    )
-    if run.returncode:
-        sys.stderr.write(run.stdout + run.stderr)
-        say("the build failed")
+    if not prove_all(crates, copies, lanes):
         return False
     os.utime(PROGRAM, (at, at))
     SUM.write_text(sum)
-    copies.remove()
-    say(f"{len(crates)} of {len(crates)}: suzhimanu is built, {(time.monotonic() - began) / 60:.1f} min in all")
+    shutil.rmtree(copies.home, ignore_errors=True)
     return True
 
 
@@ -224,9 +236,9 @@ def main():
         return 1
     with open(ROOT / "crates.txt") as lock:
         fcntl.flock(lock, fcntl.LOCK_EX)
-        crates = crates_below("suzhimanu")
+        crates = [*crates_below(PROGRAM.name)]
         files = files_of(crates)
-        return 0 if is_built(files) or build(crates, files) else 1
+        return 0 if is_built(files) or build(crates, files, lock) else 1
 
 
 if __name__ == "__main__":
