@@ -20,8 +20,6 @@ use Rattle.state_model.proofs.Maps.{ns_insert_here}
 use Rattle.coll_state.specs.Rows.{Document as Fields, Row, Rows, Table, row_of, AreSound, id_of, collection_of, state_of}
 use Rattle.coll_state.specs.Changes.{fresh_table, create}
 use Rattle.coll_state.proofs.Links.{get_collection, get_document}
-use Rattle.update_model.specs.declared.fault.OpsFault.{OpsFault}
-use Rattle.update_model.specs.declared.fault.UpdateFault.{UpdateFault}
 use Rattle.update_model.specs.declared.updated.Updated.{Updated}
 use Rattle.update_model.specs.Equality.{same}
 use Rattle.update_model.specs.Reading.{operators, ops_fault}

@@ -1,20 +1,18 @@
 -- A command of well-formed documents leaves well-formed documents.
-use Rattle.std.proofs.Common.{◌≡◌, ℕ, ◌+◌, List, [], ◌∷◌, ◌++◌, Bool, true, false, cond, arith, refl, sym, ap, ◌∙◌, subst, Option, Some, None, Result, Ok, Err}
+use Rattle.std.proofs.Common.{◌≡◌, ℕ, List, [], ◌∷◌, ◌++◌, Bool, true, false, cond, arith, refl, sym, ap, ◌∙◌, subst, Option, Some, None, Result, Ok, Err}
 use Rattle.std.specs.Prelude.{⊤, not, map as each, codes, if◌then◌else◌}
 use Rattle.std.specs.Str.{bytes_eq}
-use Rattle.std.specs.List.{AllByRecursion}
 use Rattle.std.specs.FinMap as map
 use Rattle.containers.specs.Entries.{IsAbsent, names_of, without}
 use Rattle.bson_value.specs.declared.namespace.NsName.{NsName}
 use Rattle.bson_value.specs.declared.value.Value.{Value, Object}
 use Rattle.bson_value.specs.NamespaceOrder.{namespace_cmp}
-use Rattle.bson_value.specs.WellFormed.{IsName, IsWellFormed, AreWellFormedFields, IsWellFormedDocument}
+use Rattle.bson_value.specs.WellFormed.{IsName, IsWellFormedDocument}
 use Rattle.bson_encode.specs.Key.{key_of}
 use Rattle.doc_path.specs.declared.parts.Form.{Form}
 use Rattle.doc_path.specs.Played.{id_name}
 use Rattle.json_tree.specs.declared.tree.Tree.{Tree}
 use Rattle.state_model.specs.Keys.{Key, same_key, same_ns}
-use Rattle.state_model.specs.States.{no_options}
 use Rattle.state_model.proofs.Keys.{ns_anti}
 use Rattle.state_model.proofs.Maps.{ns_at_insert, ns_at_remove}
 use Rattle.coll_state.specs.Rows.{Document as Fields, Row, Table, Rows, row_of, id_of}
@@ -41,11 +39,10 @@ use Rattle.history_model.specs.Documents.{id_before, id_first, normal_of}
 use Rattle.history_model.specs.Entries.{Item, update_item}
 use Rattle.history_model.specs.Entries as entries
 use Rattle.history_model.specs.Stages.{Write, Single, Rename, Txn, rows_all, rows_by, Effect}
-use Rattle.history_model.specs.Stages as stages
 use Rattle.history_model.specs.Stages.{Stage}
 use Rattle.history_model.specs.Refusals.{is_there, row_in, row_at, accepted, update_of, first_of, document_refusal}
-use Rattle.history_model.specs.Commands.{RecordedWrite, put_change, unless_same, update_changes, replace_changes, insert_changes, under_id, document_changes, rows_of_changes, and_then, changes_together, group_of, or_too_large, is_too_large, grouped, one_each, only, unless_refused, index_effects, command_rows, command_effects, effects}
-use Rattle.history_model.specs.WellFormed.{HasWellFormed, IsWellFormedTable, AreWellFormed, IsWellFormedChange, AreWellFormedChanges, IsWellFormedCommand, AreWellFormedLines, IsWellFormedLine}
+use Rattle.history_model.specs.Commands.{RecordedWrite, put_change, unless_same, update_changes, replace_changes, insert_changes, under_id, document_changes, rows_of_changes, and_then, changes_together, group_of, or_too_large, is_too_large, grouped, one_each, unless_refused, index_effects, command_rows, command_effects, effects}
+use Rattle.history_model.specs.WellFormed.{HasWellFormed, IsWellFormedTable, AreWellFormed, IsWellFormedChange, AreWellFormedChanges, IsWellFormedCommand, AreWellFormedLines}
 
 -- ---- lines
 

@@ -1,5 +1,5 @@
 -- The laws of histories and of dumps that are made of them.
-use Rattle.std.specs.Prelude.{ℕ, ◌≡◌, ◌<◌, List, [], ◌∷◌, ◌++◌, map as each, Bool, true, false, filter, ⊤, Option, Some, None, Ok}
+use Rattle.std.specs.Prelude.{ℕ, ◌≡◌, ◌<◌, List, [], ◌∷◌, ◌++◌, Bool, true, false, filter, ⊤, Option, Some, None, Ok}
 use Rattle.bson_value.specs.declared.namespace.NsName.{NsName}
 use Rattle.bson_value.specs.declared.value.Ts.{Ts}
 use Rattle.state_model.specs.Moves.{Move}
