@@ -18,6 +18,10 @@ fn is_spelled(alloc: Global, doc: &Doc, digits: &str) -> Result<bool, Fail> {
 // {a: null, b: true}
 const START: &str = "0c0000000a6100086200 01 00";
 
+fn start(alloc: Global) -> Result<Doc, Fail> {
+    Ok(decode(alloc, &unhex(alloc, START)?, 100, 1)?)
+}
+
 // Whether there was no field of this name, and it stands in front now.
 fn is_put_first(doc: &mut Doc, name: CText, value: Value) -> Result<bool, AllocError> {
     match doc.place(name.as_str()) {
@@ -31,7 +35,7 @@ fn is_put_first(doc: &mut Doc, name: CText, value: Value) -> Result<bool, AllocE
 
 #[test]
 fn a_field_is_put_in_front(rt: HostRuntime) -> Result<(), Fail> {
-    let mut doc = decode(rt.alloc(), &unhex(rt.alloc(), START)?, 100, 1)?;
+    let mut doc = start(rt.alloc())?;
     let id = name(rt.alloc(), "_id")?;
     let is_first = is_put_first(&mut doc, id, Value::Bool(false))?;
     assert!(rt; is_first);
@@ -45,19 +49,29 @@ fn a_field_is_put_in_front(rt: HostRuntime) -> Result<(), Fail> {
     Ok(())
 }
 
+// A name, and the document in which it has the value true.
+const SET: [(&str, &str); 2] = [
+    ("a", "0d000000086100 01 086200 01 00"),
+    ("c", "10000000 0a6100 086200 01 086300 01 00"),
+];
+
+fn is_set(alloc: Global, field: &str, digits: &str) -> Result<bool, Fail> {
+    let mut doc = start(alloc)?;
+    doc.set_by_name(alloc, field, Value::Bool(true))?;
+    is_spelled(alloc, &doc, digits)
+}
+
 #[test]
 fn a_field_is_set_by_its_name(rt: HostRuntime) -> Result<(), Fail> {
-    let mut doc = decode(rt.alloc(), &unhex(rt.alloc(), START)?, 100, 1)?;
-    let (a, c) = (name(rt.alloc(), "a")?, name(rt.alloc(), "c")?);
-    doc.set_by_name(rt.alloc(), a.as_str(), Value::Bool(true))?;
-    doc.set_by_name(rt.alloc(), c.as_str(), Value::Null)?;
-    assert!(rt; is_spelled(rt.alloc(), &doc, "10000000086100 01 086200 01 0a6300 00")?);
+    for (field, digits) in SET {
+        assert!(rt; is_set(rt.alloc(), field, digits)?, "{field}");
+    }
     Ok(())
 }
 
 #[test]
 fn a_field_is_taken_out_by_its_place(rt: HostRuntime) -> Result<(), Fail> {
-    let mut doc = decode(rt.alloc(), &unhex(rt.alloc(), START)?, 100, 1)?;
+    let mut doc = start(rt.alloc())?;
     if doc.len() > 0 {
         let (name, value) = doc.take(0);
         assert!(rt; name.as_str() == "a" && value.same(&Value::Null));
@@ -68,7 +82,7 @@ fn a_field_is_taken_out_by_its_place(rt: HostRuntime) -> Result<(), Fail> {
 
 #[test]
 fn a_document_is_its_entries(rt: HostRuntime) -> Result<(), Fail> {
-    let doc = decode(rt.alloc(), &unhex(rt.alloc(), START)?, 100, 1)?;
+    let doc = start(rt.alloc())?;
     let entries = doc.into_entries();
     assert_eq!(rt; entries.len(), 2);
     assert!(rt; is_spelled(rt.alloc(), &Fields::of_distinct(entries), START)?);

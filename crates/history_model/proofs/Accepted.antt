@@ -20,8 +20,6 @@ use Rattle.state_model.proofs.Maps.{ns_insert_here}
 use Rattle.coll_state.specs.Rows.{Document as Fields, Row, Rows, Table, row_of, AreSound, id_of, collection_of, state_of}
 use Rattle.coll_state.specs.Changes.{fresh_table, create}
 use Rattle.coll_state.proofs.Links.{get_collection, get_document}
-use Rattle.update_model.specs.declared.fault.OpsFault.{OpsFault}
-use Rattle.update_model.specs.declared.fault.UpdateFault.{UpdateFault}
 use Rattle.update_model.specs.declared.updated.Updated.{Updated}
 use Rattle.update_model.specs.Equality.{same}
 use Rattle.update_model.specs.Reading.{operators, ops_fault}
@@ -42,7 +40,10 @@ use Rattle.history_model.specs.Stages.{Stage, Effect, rows_by, stage_by, made_in
 use Rattle.history_model.specs.Refusals.{first_of, document_rows, document_refusal, index_rows, row_in, row_at, row_named, accepted, update_of}
 use Rattle.history_model.specs.Commands.{RecordedWrite, put_change, unless_same, update_changes, replace_changes, insert_changes, under_id, document_changes, rows_of_changes, and_then, changes_together, group_of, is_too_large, or_too_large, grouped, one_each, unless_refused, index_effects, command_rows, command_effects, effects}
 use Rattle.history_model.specs.Recordings.{EachRecorded, IsRecordedBy, AllMade}
-use Rattle.history_model.specs.Laws.{AreRecorded, UpdatesAreRecorded}
+use Rattle.bson_value.specs.WellFormed.{IsWellFormedDocument}
+use Rattle.update_records.specs.Laws.{AreRecorded, UpdatesRecord}
+use Rattle.history_model.specs.WellFormed.{AreWellFormed, IsWellFormedChange, AreWellFormedChanges, IsWellFormedCommand}
+use Rattle.history_model.proofs.WellFormed.{accepted_ok, there_formed, made_leaves, document_formed}
 
 -- where nothing is refused no condition holds
 abbrev pub AllFalse : List (Bool × Refused) → Type 0
@@ -101,49 +102,40 @@ replace_ok n id d r (Some t) e = there (row_of t.rows (key_of id)) refl
     there None f = tt
     there (Some w) f = unless_ok w.document d (put_change n id d (entries.Whole n id d) ∷ []) r (put_over n id d (entries.Whole n id d) r t w e f (inl (refl, same_shape d w.document)))
 
--- an update that is accepted is refused by neither
-abbrev BothOk : Option OpsFault → Result Updated UpdateFault → Updated → Type 0
-BothOk o x u = (o ≡ None) × (x ≡ Ok u)
-
-accepted_ok : (o : Option OpsFault) (x : Result Updated UpdateFault) (u : Updated) → accepted o x ≡ Some u → BothOk o x u
-accepted_ok None (Ok v) u e = (refl, cc)
-accepted_ok None (Err f) u e = cc
-accepted_ok (Some f) x u e = cc
-
-update_ok : UpdatesAreRecorded → (f : Form) (n : NsName) (id : Value) (ops : Fields) (r : Rows) (u : Option Table) → map.get r.tables n ≡ u → ChangesOk (update_changes f n id (row_in (key_of id) u) (update_of (row_in (key_of id) u) ops)) r
-update_ok are_recorded f n id ops r None e = tt
-update_ok are_recorded f n id ops r (Some t) e = there (row_of t.rows (key_of id)) refl
+update_ok : UpdatesRecord → (f : Form) (n : NsName) (id : Value) (ops : Fields) (r : Rows) (u : Option Table) → map.get r.tables n ≡ u → IsWellFormedDocument ops → AreWellFormed r → ChangesOk (update_changes f n id (row_in (key_of id) u) (update_of (row_in (key_of id) u) ops)) r
+update_ok are_recorded f n id ops r None e k h = tt
+update_ok are_recorded f n id ops r (Some t) e k formed = there (row_of t.rows (key_of id)) refl
   where
     entry : (w : Row) (u : Updated) (o : Option (Form × List Touch)) → AreRecorded o w.document u.doc → PutIsRecorded n (key_of id) u.doc (Some (Object w.document)) (item_moves (delta_or_whole n id u.doc o))
     entry w u None h = inl (refl, same_shape u.doc w.document)
     entry w u (Some x) h = inr (record { form = x.0; touches = each touch_of x.1; deltas_of = refl; none_left = h.0; records = h.1 })
 
-    told : (w : Row) (u : Updated) → accepted (ops_fault ops) (updated (operators ops) w.document) ≡ Some u → AreRecorded (recorded f u.doc u.touches) w.document u.doc
-    told w u g = (let b = accepted_ok (ops_fault ops) (updated (operators ops) w.document) u g in are_recorded f w.document ops u b.0 b.1)
+    told : (w : Row) (u : Updated) → row_of t.rows (key_of id) ≡ Some w → accepted (ops_fault ops) (updated (operators ops) w.document) ≡ Some u → AreRecorded (recorded f u.doc u.touches) w.document u.doc
+    told w u q g = (let b = accepted_ok (ops_fault ops) (updated (operators ops) w.document) u g in are_recorded f w.document ops u (there_formed r n (key_of id) t w formed e q) k b.0 b.1)
 
     made : (w : Row) → row_of t.rows (key_of id) ≡ Some w → (x : Option Updated) → accepted (ops_fault ops) (updated (operators ops) w.document) ≡ x → ChangesOk (update_changes f n id (Some w) x) r
     made w g None h = tt
     made w g (Some u) h =
         unless_ok w.document u.doc (put_change n id u.doc (update_item f n id u.doc u.touches) ∷ []) r
-        (put_over n id u.doc (update_item f n id u.doc u.touches) r t w e g (entry w u (recorded f u.doc u.touches) (told w u h)))
+        (put_over n id u.doc (update_item f n id u.doc u.touches) r t w e g (entry w u (recorded f u.doc u.touches) (told w u g h)))
 
     there : (w : Option Row) → row_of t.rows (key_of id) ≡ w → ChangesOk (update_changes f n id w (update_of w ops)) r
     there None g = tt
     there (Some w) g = made w g (accepted (ops_fault ops) (updated (operators ops) w.document)) refl
 
-pub document_ok : UpdatesAreRecorded → (f : Form) (in_txn : Bool) (d : DocumentCommand) (r : Rows) → document_refusal in_txn d r ≡ None → ChangesOk (document_changes f d r) r
-document_ok recorded f in_txn (Insert n d) r h = insert_ok n (id_first d) r (id_of d) (map.get r.tables n) refl (named_false (id_of d) (all_false (document_rows in_txn (Insert n d) r) h).1.0)
+pub document_ok : UpdatesRecord → (f : Form) (in_txn : Bool) (d : DocumentCommand) (r : Rows) → IsWellFormedChange d → AreWellFormed r → document_refusal in_txn d r ≡ None → ChangesOk (document_changes f d r) r
+document_ok recorded f in_txn (Insert n d) r w formed h = insert_ok n (id_first d) r (id_of d) (map.get r.tables n) refl (named_false (id_of d) (all_false (document_rows in_txn (Insert n d) r) h).1.0)
   where
     named_false : (o : Option Value) → is_some (row_named n o r) ≡ false → is_some (row_found o (map.get r.tables n)) ≡ false
     named_false None g = refl
     named_false (Some id) g = g
-document_ok recorded f in_txn (Replace n d) r h = under (id_of d)
+document_ok recorded f in_txn (Replace n d) r w formed h = under (id_of d)
   where
     under : (o : Option Value) → ChangesOk (under_id (λ id. replace_changes n id (id_first d) (row_at n (key_of id) r)) o) r
     under None = tt
     under (Some id) = replace_ok n id (id_first d) r (map.get r.tables n) refl
-document_ok recorded f in_txn (Update n id ops) r h = update_ok recorded f n id ops r (map.get r.tables n) refl
-document_ok recorded f in_txn (Delete n id) r h = (refl, tt)
+document_ok recorded f in_txn (Update n id ops) r w formed h = update_ok recorded f n id ops r (map.get r.tables n) refl w formed
+document_ok recorded f in_txn (Delete n id) r w formed h = (refl, tt)
 
 -- changes one after the other
 pub changes_sound : (cs : List RecordedWrite) (r : Rows) → AreSound r → AreSound (rows_of_changes cs r)
@@ -160,10 +152,10 @@ Answer A = Result A Refused
 pub same_ok : {A : Type 0} (a b : A) → ◌≡◌ {A = Answer A} (Ok a) (Ok b) → a ≡ b
 same_ok a b e = cc
 
-together_ok : UpdatesAreRecorded → (f : Form) (ds : List DocumentCommand) (r : Rows) (all : List RecordedWrite) → changes_together f ds r ≡ Ok all → ChangesOk all r
-together_ok recorded f [] r all h = subst (λ (z : List RecordedWrite). ChangesOk z r) (same_ok [] all h) tt
-together_ok recorded f (d ∷ ds) r all h =
-    both (λ more g. together_ok recorded f ds (rows_of_changes (document_changes f d r) r) more g)
+together_ok : UpdatesRecord → (f : Form) (ds : List DocumentCommand) (r : Rows) (all : List RecordedWrite) → AreWellFormedChanges ds → AreWellFormed r → changes_together f ds r ≡ Ok all → ChangesOk all r
+together_ok recorded f [] r all w formed h = subst (λ (z : List RecordedWrite). ChangesOk z r) (same_ok [] all h) tt
+together_ok recorded f (d ∷ ds) r all w formed h =
+    both (λ more g. together_ok recorded f ds (rows_of_changes (document_changes f d r) r) more w.1 (made_leaves (document_changes f d r) r (document_formed f d r w.0 formed) formed) g)
     (document_refusal true d r) refl (changes_together f ds (rows_of_changes (document_changes f d r) r)) refl h
   where
     both : ((more : List RecordedWrite) → changes_together f ds (rows_of_changes (document_changes f d r) r) ≡ Ok more → ChangesOk more (rows_of_changes (document_changes f d r) r)) →
@@ -172,7 +164,7 @@ together_ok recorded f (d ∷ ds) r all h =
     both rest (Some x) e y g k = cc
     both rest None e (Err x) g k = cc
     both rest None e (Ok more) g k =
-        (let one = document_ok recorded f true d r e in
+        (let one = document_ok recorded f true d r w.0 formed e in
         subst (λ (z : List RecordedWrite). ChangesOk z r) (same_ok (document_changes f d r ++ more) all k) (changes_joined (document_changes f d r) more r one (rest more g)))
 
 -- what a command makes, each recorded on the rows before it
@@ -216,29 +208,29 @@ index_ok : (n : NsName) (o : Option Tree) (r : Rows) → IsThere (map.get (state
 index_ok n None r h = tt
 index_ok n (Some d) r h = ((refl, h), tt)
 
-effect_ok : UpdatesAreRecorded → (k : Command) (st : Stage) → first_of (command_rows k st) ≡ None → EffectsOk (command_effects k st) st.rows
-effect_ok recorded (At s) st e = tt
-effect_ok recorded (Recording f) st e = tt
-effect_ok recorded (Create n o) st e = (refl, tt)
-effect_ok recorded (DropColl n) st e = (refl, tt)
-effect_ok recorded (DropDatabase db) st e = (refl, tt)
-effect_ok recorded (Rename a b) st e = ((refl, refl), tt)
-effect_ok recorded (Document d) st e = one_each_ok (document_changes st.form d st.rows) st.rows (document_ok recorded st.form false d st.rows e)
-effect_ok recorded (CreateIndex n d) st e = index_ok n (normal_of d) st.rows (is_found n st.rows (map.get st.rows.tables n) refl (all_false (index_rows n d st.rows) e).0)
-effect_ok recorded (DropIndex n k) st e = (refl, tt)
-effect_ok recorded (Txn cs) st e = tt
+effect_ok : UpdatesRecord → (k : Command) (st : Stage) → IsWellFormedCommand k → AreWellFormed st.rows → first_of (command_rows k st) ≡ None → EffectsOk (command_effects k st) st.rows
+effect_ok recorded (At s) st w formed e = tt
+effect_ok recorded (Recording f) st w formed e = tt
+effect_ok recorded (Create n o) st w formed e = (refl, tt)
+effect_ok recorded (DropColl n) st w formed e = (refl, tt)
+effect_ok recorded (DropDatabase db) st w formed e = (refl, tt)
+effect_ok recorded (Rename a b) st w formed e = ((refl, refl), tt)
+effect_ok recorded (Document d) st w formed e = one_each_ok (document_changes st.form d st.rows) st.rows (document_ok recorded st.form false d st.rows w formed e)
+effect_ok recorded (CreateIndex n d) st w formed e = index_ok n (normal_of d) st.rows (is_found n st.rows (map.get st.rows.tables n) refl (all_false (index_rows n d st.rows) e).0)
+effect_ok recorded (DropIndex n k) st w formed e = (refl, tt)
+effect_ok recorded (Txn cs) st w formed e = tt
 
-pub command_ok : UpdatesAreRecorded → (k : Command) (st : Stage) (ds : List Effect) → effects k st ≡ Ok ds → EffectsOk ds st.rows
-command_ok recorded (Txn cs) st ds h = grouped_ok (changes_together st.form cs st.rows) st.rows ds (λ all e. together_ok recorded st.form cs st.rows all e) h
-command_ok recorded (At s) st ds h = told_by (first_of (command_rows (At s) st)) (command_effects (At s) st) ds st.rows (effect_ok recorded (At s) st) h
-command_ok recorded (Recording f) st ds h = told_by (first_of (command_rows (Recording f) st)) (command_effects (Recording f) st) ds st.rows (effect_ok recorded (Recording f) st) h
-command_ok recorded (Create n o) st ds h = told_by (first_of (command_rows (Create n o) st)) (command_effects (Create n o) st) ds st.rows (effect_ok recorded (Create n o) st) h
-command_ok recorded (DropColl n) st ds h = told_by (first_of (command_rows (DropColl n) st)) (command_effects (DropColl n) st) ds st.rows (effect_ok recorded (DropColl n) st) h
-command_ok recorded (DropDatabase db) st ds h = told_by (first_of (command_rows (DropDatabase db) st)) (command_effects (DropDatabase db) st) ds st.rows (effect_ok recorded (DropDatabase db) st) h
-command_ok recorded (Rename a b) st ds h = told_by (first_of (command_rows (Rename a b) st)) (command_effects (Rename a b) st) ds st.rows (effect_ok recorded (Rename a b) st) h
-command_ok recorded (Document d) st ds h = told_by (first_of (command_rows (Document d) st)) (command_effects (Document d) st) ds st.rows (effect_ok recorded (Document d) st) h
-command_ok recorded (CreateIndex n d) st ds h = told_by (first_of (command_rows (CreateIndex n d) st)) (command_effects (CreateIndex n d) st) ds st.rows (effect_ok recorded (CreateIndex n d) st) h
-command_ok recorded (DropIndex n k) st ds h = told_by (first_of (command_rows (DropIndex n k) st)) (command_effects (DropIndex n k) st) ds st.rows (effect_ok recorded (DropIndex n k) st) h
+pub command_ok : UpdatesRecord → (k : Command) (st : Stage) (ds : List Effect) → IsWellFormedCommand k → AreWellFormed st.rows → effects k st ≡ Ok ds → EffectsOk ds st.rows
+command_ok recorded (Txn cs) st ds w formed h = grouped_ok (changes_together st.form cs st.rows) st.rows ds (λ all e. together_ok recorded st.form cs st.rows all w formed e) h
+command_ok recorded (At s) st ds w formed h = told_by (first_of (command_rows (At s) st)) (command_effects (At s) st) ds st.rows (effect_ok recorded (At s) st w formed) h
+command_ok recorded (Recording f) st ds w formed h = told_by (first_of (command_rows (Recording f) st)) (command_effects (Recording f) st) ds st.rows (effect_ok recorded (Recording f) st w formed) h
+command_ok recorded (Create n o) st ds w formed h = told_by (first_of (command_rows (Create n o) st)) (command_effects (Create n o) st) ds st.rows (effect_ok recorded (Create n o) st w formed) h
+command_ok recorded (DropColl n) st ds w formed h = told_by (first_of (command_rows (DropColl n) st)) (command_effects (DropColl n) st) ds st.rows (effect_ok recorded (DropColl n) st w formed) h
+command_ok recorded (DropDatabase db) st ds w formed h = told_by (first_of (command_rows (DropDatabase db) st)) (command_effects (DropDatabase db) st) ds st.rows (effect_ok recorded (DropDatabase db) st w formed) h
+command_ok recorded (Rename a b) st ds w formed h = told_by (first_of (command_rows (Rename a b) st)) (command_effects (Rename a b) st) ds st.rows (effect_ok recorded (Rename a b) st w formed) h
+command_ok recorded (Document d) st ds w formed h = told_by (first_of (command_rows (Document d) st)) (command_effects (Document d) st) ds st.rows (effect_ok recorded (Document d) st w formed) h
+command_ok recorded (CreateIndex n d) st ds w formed h = told_by (first_of (command_rows (CreateIndex n d) st)) (command_effects (CreateIndex n d) st) ds st.rows (effect_ok recorded (CreateIndex n d) st w formed) h
+command_ok recorded (DropIndex n k) st ds w formed h = told_by (first_of (command_rows (DropIndex n k) st)) (command_effects (DropIndex n k) st) ds st.rows (effect_ok recorded (DropIndex n k) st w formed) h
 
 -- effects as what is made, at their timestamps
 pub made_ok : (ds : List Effect) (st : Stage) → EffectsOk ds st.rows → AllMade (made_in ds st) st.rows

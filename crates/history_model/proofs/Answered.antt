@@ -5,7 +5,8 @@ use Rattle.history_model.specs.Stages.{Stage, Made}
 use Rattle.history_model.specs.Runs.{Schedule, DumpState, run}
 use Rattle.history_model.specs.Histories.{moments_of, moments}
 use Rattle.history_model.specs.Invariants.{NoRename, MarkedOk, DumpOk}
-use Rattle.history_model.specs.Laws.{UpdatesAreRecorded}
+use Rattle.update_records.specs.Laws.{UpdatesRecord}
+use Rattle.history_model.specs.WellFormed.{AreWellFormedLines}
 use Rattle.history_model.proofs.Runs.{run_good}
 
 same_some : (a b : Ts) → Some a ≡ Some b → a ≡ b
@@ -19,5 +20,5 @@ dump_free : (a b : Ts) (o : Option DumpState) (st : Stage) (ms : List Made) → 
 dump_free a b None st ms h e f = cc
 dump_free a b (Some d) st ms h e f = marked_free a b d.start d.mark st ms h (same_some d.start a e) f
 
-pub no_rename : UpdatesAreRecorded → (s : Schedule) (a b : Ts) → (moments s).start ≡ Some a → (moments s).end_ts ≡ Some b → NoRename a b (run s).made
-no_rename sound s a b e f = dump_free a b (run s).dump (run s).stage (run s).made (run_good sound s).1 e f
+pub no_rename : UpdatesRecord → (s : Schedule) (a b : Ts) → AreWellFormedLines s.lines → (moments s).start ≡ Some a → (moments s).end_ts ≡ Some b → NoRename a b (run s).made
+no_rename sound s a b w e f = dump_free a b (run s).dump (run s).stage (run s).made (run_good sound s w).1 e f

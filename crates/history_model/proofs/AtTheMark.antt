@@ -21,7 +21,8 @@ use Rattle.history_model.specs.Commands.{applied}
 use Rattle.history_model.specs.Runs.{Refusal, NotNow, NoCursor, DumpState, Outcome, Done, Renamed, Rolled, Run, entries_from, window, is_gone, started, looked, all_ended, read_on, copied_by, copied, renamed_since, rolled_or, rolled, marked_by, marked, sent_on, tailed_to, tailed, still, in_dump, dumped, commanded, on_line, or_refused, after_line, after_lines}
 use Rattle.history_model.specs.Recordings.{moves_made, EachMade, OfRename, NoRenames, made_of_answer, made_by_line, made_by, reads_in}
 use Rattle.history_model.specs.Invariants.{RisesTo, UpTo, RunOk}
-use Rattle.history_model.specs.Laws.{UpdatesAreRecorded}
+use Rattle.update_records.specs.Laws.{UpdatesRecord}
+use Rattle.history_model.specs.WellFormed.{AreWellFormedLines}
 use Rattle.copy_model.specs.Laws.{CopyHeals}
 use Rattle.history_model.proofs.Runs.{noted_before, taken_rises, lines_good}
 use Rattle.history_model.proofs.Order.{earlier_turn, earlier_not}
@@ -239,12 +240,12 @@ no_rename_on start m h e = of_rename m.write (earlier m.ts start ≡ true) ⊥ (
     wrong : earlier m.ts start ≡ true → ⊥
     wrong g = cc
 
-pub no_renames : UpdatesAreRecorded → (c : Caps) (r s : Run) (ls : List (ℕ × Line)) → RunOk c r → on_line Mark (after_lines ls (started r)) ≡ Ok s → s.outcome ≡ Done → NoRenames (last_made r.made) × NoRenames (made_by ls (started r))
-no_renames sound c r s ls h e done =
+pub no_renames : UpdatesRecord → (c : Caps) (r s : Run) (ls : List (ℕ × Line)) → AreWellFormedLines ls → RunOk c r → on_line Mark (after_lines ls (started r)) ≡ Ok s → s.outcome ≡ Done → NoRenames (last_made r.made) × NoRenames (made_by ls (started r))
+no_renames sound c r s ls w h e done =
     (let end = after_lines ls (started r) in
     let f = found end s e done in
     let start : f.copy.start ≡ r.stage.newest = subst (λ (o : Option DumpState). StartIs r.stage.newest o) f.there (lines_start r.stage.newest ls (started r) refl) in
-    let whole = lines_good sound c ls (started r) (h.0, tt) in
+    let whole = lines_good sound c ls (started r) w (h.0, tt) in
     let noted : EachMade (λ (m : Made). OfRename m.write (earlier m.ts r.stage.newest ≡ true)) end.made =
     each_map (λ (m : Made). OfRename m.write (UpTo end.stage.renamed m.ts)) (λ (m : Made). OfRename m.write (earlier m.ts r.stage.newest ≡ true))
     (λ m u. of_rename m.write (UpTo end.stage.renamed m.ts) (earlier m.ts r.stage.newest ≡ true) (λ k. subst (λ (z : Ts). earlier m.ts z ≡ true) start (noted_before f.copy.start end.stage.renamed m.ts f.none k)) u) end.made whole.0.renamed in
@@ -259,12 +260,12 @@ no_renames sound c r s ls h e done =
     (λ m a b. no_rename_on r.stage.newest m a (earlier_turn r.stage.newest m.ts b)) (made_by ls (started r)) halves.1 (all_above (made_by ls (started r)) r.stage.newest end.stage.newest (lines_rise ls (started r))) in
     (first, later))
 
-pub torn_at_mark : CopyHeals → UpdatesAreRecorded → (c : Caps) (r s : Run) (ls : List (ℕ × Line)) → RunOk c r → r.steps ≡ [] → on_line Mark (after_lines ls (started r)) ≡ Ok s → s.outcome ≡ Done →
+pub torn_at_mark : CopyHeals → UpdatesRecord → (c : Caps) (r s : Run) (ls : List (ℕ × Line)) → AreWellFormedLines ls → RunOk c r → r.steps ≡ [] → on_line Mark (after_lines ls (started r)) ≡ Ok s → s.outcome ≡ Done →
     SameStates (replay_all (moves_made (last_made r.made ++ made_by ls (started r))) (copy_of r.stage.rows (reads_in (after_lines ls (started r)).steps []))) (state_of (after_lines ls (started r)).stage.rows)
-torn_at_mark heals sound c r s ls h none e done =
+torn_at_mark heals sound c r s ls w h none e done =
     (let end = after_lines ls (started r) in
     let f = found end s e done in
-    let free = no_renames sound c r s ls h e done in
+    let free = no_renames sound c r s ls w h e done in
     let parted = last_parted r.made in
-    torn_run heals sound c r parted.0 (last_made r.made) ls h none parted.1 free.0 free.1 f.live
+    torn_run heals sound c r parted.0 (last_made r.made) ls w h none parted.1 free.0 free.1 f.live
     (λ d g n x k. all_have_ended d.cursors (subst (λ (z : DumpState). all_ended z.cursors ≡ true) (same_copy f.copy d (sym f.there ∙ g)) f.all) n x k))

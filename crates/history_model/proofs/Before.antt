@@ -19,7 +19,9 @@ use Rattle.history_model.specs.Runs.{Refusal, NotNow, DumpState, Outcome, Done, 
 use Rattle.history_model.specs.Histories.{history_of, state_from, state, moments_of}
 use Rattle.history_model.specs.Recordings.{AllMade, rows_of_made, moves_made, moves_recorded, EachMade, OfRename, NoRenames, made_by_line, made_by, reads_in}
 use Rattle.history_model.specs.Invariants.{RisesTo, RunOk, CopiedOut}
-use Rattle.history_model.specs.Laws.{UpdatesAreRecorded}
+use Rattle.update_records.specs.Laws.{UpdatesRecord}
+use Rattle.history_model.specs.WellFormed.{AreWellFormedLines}
+use Rattle.history_model.proofs.WellFormed.{lines_front}
 use Rattle.copy_model.specs.Laws.{CopyHeals}
 use Rattle.history_model.specs.Histories.{is_before}
 use Rattle.history_model.specs.Laws.{IsLate}
@@ -107,6 +109,7 @@ pub record Parted (c : Caps) (r s t : Run) : Type 0 where
   pub is_last : at_last ≡ after_lines front (started r)
   pub copied : CopiedOut at_last
   pub live : at_last.outcome ≡ Done
+  pub formed : AreWellFormedLines front
   pub ok : RunOk c at_last
   pub between : List Made
   pub behind : List Made
@@ -129,8 +132,8 @@ three_moments d a b e f g h = λ i. record { start = Some (f i); last_read = Som
 start_in : (ts : Ts) (o : Option DumpState) (d : DumpState) → o ≡ Some d → StartIs ts o → d.start ≡ ts
 start_in ts o d e h = subst (StartIs ts) e h
 
-pub parted : UpdatesAreRecorded → (c : Caps) (r s t : Run) (ls back : List (ℕ × Line)) → RunOk c r → on_line Mark (after_lines ls (started r)) ≡ Ok s → s.outcome ≡ Done → t ≡ after_lines back s → Parted c r s t
-parted sound c r s t ls back h e done g =
+pub parted : UpdatesRecord → (c : Caps) (r s t : Run) (ls back : List (ℕ × Line)) → AreWellFormedLines ls → RunOk c r → on_line Mark (after_lines ls (started r)) ≡ Ok s → s.outcome ≡ Done → t ≡ after_lines back s → Parted c r s t
+parted sound c r s t ls back w h e done g =
     (let ok : RunOk c (started r) = (h.0, tt) in
     let end = after_lines ls (started r) in
     let f = found end s e done in
@@ -147,7 +150,8 @@ parted sound c r s t ls back h e done g =
     let has : HasMark end.stage.newest s = subst (HasMark end.stage.newest) mm.becomes (record { copy = _; there = refl; marked = refl }) in
     let marked_t : HasMark end.stage.newest t = subst (HasMark end.stage.newest) (sym g) (mark_stays end.stage.newest back s has) in
     let started_t : StartIs r.stage.newest t.dump = subst (λ (z : Run). StartIs r.stage.newest z.dump) to_t (lines_start r.stage.newest rest last (lines_start r.stage.newest cut.front (started r) refl)) in
-    let free = no_renames sound c r s ls h e done in
+    let free = no_renames sound c r s ls w h e done in
+    let front_formed = lines_front cut.front cut.back (subst AreWellFormedLines cut.whole w) in
     let split = made_append cut.front cut.back (started r) in
     let frees = each_first (λ (m : Made). OfRename m.write ⊥) (made_by cut.front (started r)) (made_by cut.back last) (subst NoRenames (ap (λ (z : List (ℕ × Line)). made_by z (started r)) cut.whole ∙ split) free.1) in
     let newest : (after_lines cut.back last).stage.newest ≡ s.stage.newest = ap (λ (z : Run). z.stage.newest) to_end ∙ sym (ap (λ (z : Stage). z.newest) base.0) in
@@ -157,13 +161,14 @@ parted sound c r s t ls back h e done g =
       is_last = refl;
       copied = λ d k n x y. all_have_ended d.cursors (subst (λ (z : DumpState). all_ended z.cursors ≡ true) (same_copy cut.copy d (sym cut.there ∙ k)) cut.all) n x y;
       live = lines_stay cut.back last (ap (λ (z : Run). z.outcome) to_end ∙ f.live);
-      ok = lines_good sound c cut.front (started r) ok;
+      formed = front_formed;
+      ok = lines_good sound c cut.front (started r) front_formed ok;
       between = made_by cut.back last;
       behind = made_by back s;
       made_last = lines_made cut.front (started r);
       made_mark = base.1 ∙ (sym (ap (λ (z : Run). z.made) to_end) ∙ lines_made cut.back last);
       made_all = ap (λ (z : Run). z.made) g ∙ lines_made back s;
-      ok_mark = subst (RunOk c) marking (lines_good sound c ((0, Mark) ∷ []) end (lines_good sound c ls (started r) ok));
+      ok_mark = subst (RunOk c) marking (lines_good sound c ((0, Mark) ∷ []) end (tt, tt) (lines_good sound c ls (started r) w ok));
       rises_front = lines_rise cut.front (started r);
       rises = subst (λ (z : Ts). RisesTo last.stage.newest (made_by cut.back last) z) newest (lines_rise cut.back last);
       later = subst (λ (z : Run). RisesTo s.stage.newest (made_by back s) z.stage.newest) (sym g) (lines_rise back s);
@@ -260,7 +265,7 @@ module _ (l : Option Ts) (start last mid end : Ts) (before front xs ys zs : List
 same_append : (a b c d : List Made) → a ≡ b → c ≡ d → a ++ c ≡ b ++ d
 same_append a b c d e f = ap (λ (z : List Made). z ++ c) e ∙ ap (λ (z : List Made). b ++ z) f
 
-pub healed_before : CopyHeals → UpdatesAreRecorded → (c : Caps) (r s t : Run) → RunOk c r → r.steps ≡ [] → (p : Parted c r s t) → (l : Option Ts) → IsLate l p.at_last.stage.newest →
+pub healed_before : CopyHeals → UpdatesRecord → (c : Caps) (r s t : Run) → RunOk c r → r.steps ≡ [] → (p : Parted c r s t) → (l : Option Ts) → IsLate l p.at_last.stage.newest →
     SameStates (replay_all (moves_recorded (filter (λ (e : OplogEntry). is_before l e.ts) (window r.stage.newest s.stage.newest (entries_from t)))) (copy_of r.stage.rows (reads_in t.steps [])))
     (state (filter (λ (e : Ts × Write). is_told l s.stage.newest e.0) (history_of t.made)))
 healed_before heals sound c r s t h none p l late =
@@ -274,7 +279,7 @@ healed_before heals sound c r s t h none p l late =
     (made_parted last.made (cut.front ++ cut.back) no_rows (subst (λ (z : List Made). AllMade z no_rows) (p.made_mark ∙ ap (λ (z : List Made). last.made ++ z) cut.whole) p.ok_mark.0.recorded)).1 in
     let frees = each_first (λ (m : Made). OfRename m.write ⊥) cut.front cut.back (subst NoRenames cut.whole p.between_free) in
     let one = last_parted r.made in
-    let torn = torn_more heals sound c r one.0 (last_made r.made) p.front cut.front h none one.1 p.first_free p.front_free
+    let torn = torn_more heals sound c r one.0 (last_made r.made) p.front cut.front p.formed h none one.1 p.first_free p.front_free
     (subst (λ (z : Run). z.outcome ≡ Done) p.is_last p.live) (subst CopiedOut p.is_last p.copied) (subst (λ (z : Run). AllMade cut.front z.stage.rows) p.is_last (made_parted cut.front cut.back last.stage.rows all_made).0) frees.0 in
     let torn_last : SameStates (replay_all (moves_made (last_made r.made ++ (made_front ++ cut.front))) (copy_of r.stage.rows (reads_in last.steps []))) (state_of (rows_of_made cut.front last.stage.rows)) =
     subst (λ (z : Run). SameStates (replay_all (moves_made (last_made r.made ++ (made_front ++ cut.front))) (copy_of r.stage.rows (reads_in z.steps []))) (state_of (rows_of_made cut.front z.stage.rows))) (sym p.is_last) torn in

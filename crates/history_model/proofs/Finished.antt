@@ -10,7 +10,9 @@ use Rattle.history_model.specs.Entries.{OplogEntry}
 use Rattle.history_model.specs.Stages.{not_later, Caps, Made, entry_of}
 use Rattle.history_model.specs.Runs.{Schedule, Refusal, NotNow, DumpState, Outcome, Done, Renamed, Rolled, Run, first_run, entries_from, window, is_gone, oldest, first_dump_state, started, all_ended, renamed_since, rolled_or, rolled, marked_by, marked, sent_on, tailed_to, tailed, still, in_dump, on_line, after_lines, repeated, last_step, names_in, copied_out, begun, tailed_out, marked_out, finished, run}
 use Rattle.history_model.specs.Invariants.{RunOk}
-use Rattle.history_model.specs.Laws.{UpdatesAreRecorded, Whole}
+use Rattle.update_records.specs.Laws.{UpdatesRecord}
+use Rattle.history_model.specs.WellFormed.{IsWellFormedLine, AreWellFormedLines}
+use Rattle.history_model.specs.Laws.{Whole}
 use Rattle.history_model.proofs.CopiedOut.{copy_all, all_out, all_said}
 use Rattle.history_model.proofs.Mirrored.{lines_stay}
 use Rattle.history_model.proofs.WholeRun.{repeated_lines, finished_lines}
@@ -59,8 +61,8 @@ mark_out d t e l all h = by d.mark refl
         ap next step ∙ ap (λ (b : Bool). next (choose b)) (ap (λ (o : Option Ts). is_some o || not (all_ended d.cursors)) g ∙ ap not all) in
         subst (λ (u : Run). HasMark u) (sym way) (mark_by d t (renamed_since d.start t.stage.renamed) (ap (λ (u : Run). u.outcome) (sym way) ∙ h)))
 
-live_before : (l : Line) (m : ℕ) (u : Run) → (repeated m (on_line l) u).outcome ≡ Done → u.outcome ≡ Done
-live_before l m u h = (let g = repeated_lines l m u in lines_stay g.0 u (ap (λ (x : Run). x.outcome) (sym g.1) ∙ h))
+live_before : (l : Line) (m : ℕ) (u : Run) → IsWellFormedLine l → (repeated m (on_line l) u).outcome ≡ Done → u.outcome ≡ Done
+live_before l m u w h = (let g = repeated_lines l m u w in lines_stay g.0 u (ap (λ (x : Run). x.outcome) (sym g.1) ∙ h))
 
 tail_out : (m k : ℕ) (u : Run) (d : DumpState) (e : Ts) → u.dump ≡ Some d → d.mark ≡ Some e → length (window d.start e (entries_from u)) ≤ d.sent + m → (d.closed ≡ true) ⊎ (0 < m) →
     (repeated m (on_line (Tail (suc k))) u).outcome ≡ Done → Whole (repeated m (on_line (Tail (suc k))) u)
@@ -77,7 +79,7 @@ tail_out (suc m) k u d e i f h g done =
     last (inr s) = (let x = leb-false (length (window d.start e (entries_from u))) (d.sent + suc k) s in inr (omega arith))
 
     live : u.outcome ≡ Done
-    live = live_before (Tail (suc k)) (suc m) u done
+    live = live_before (Tail (suc k)) (suc m) u tt done
 
     loop : Result Run Refusal → Run
     loop y = elim y as (λ y. Run) [ Ok s ↦ repeated m (on_line (Tail (suc k))) s | Err z ↦ u ]
@@ -97,7 +99,7 @@ tail_out (suc m) k u d e i f h g done =
     by (inl s) z rest = subst (λ (x : Run). Whole x) (sym (ap loop step ∙ ap (λ (b : Bool). loop (close b)) s)) (record { copy = d; last = e; there = i; marked = f; closed = s })
     by (inr s) (inl z) rest =
         (let way : repeated (suc m) (on_line (Tail (suc k))) u ≡ repeated m (on_line (Tail (suc k))) (rolled d.start u) = ap loop step ∙ (ap (λ (b : Bool). loop (close b)) s ∙ ap (λ (b : Bool). loop (Ok (roll b))) z) in
-        absurd (not_rolled d.start (oldest d.start u.stage.oplog) (live_before (Tail (suc k)) m (rolled d.start u) (ap (λ (x : Run). x.outcome) (sym way) ∙ done))))
+        absurd (not_rolled d.start (oldest d.start u.stage.oplog) (live_before (Tail (suc k)) m (rolled d.start u) tt (ap (λ (x : Run). x.outcome) (sym way) ∙ done))))
     by (inr s) (inr z) rest =
         (let way : repeated (suc m) (on_line (Tail (suc k))) u ≡ repeated m (on_line (Tail (suc k))) (sent_on (suc k) (window d.start e (entries_from u)) d u) =
         ap loop step ∙ (ap (λ (b : Bool). loop (close b)) s ∙ ap (λ (b : Bool). loop (Ok (roll b))) z) in
@@ -125,7 +127,7 @@ finish_from d s good e l done =
     let k = copy_all (names_in (Some d)) d s good e l in
     let all = all_said k.after.cursors (all_out d t s k) in
     let u = marked_out t in
-    let m = mark_out k.after t k.there k.live all (live_before (Tail last_step) (suc (length u.made)) u done) in
+    let m = mark_out k.after t k.there k.live all (live_before (Tail last_step) (suc (length u.made)) u tt done) in
     let few = few_entries u m.copy.start m.last in
     tail_out (suc (length u.made)) 999 u m.copy m.last m.there m.marked (omega arith) (inr (omega arith)) done)
 
@@ -153,5 +155,5 @@ finish_whole c r h done = by r.dump refl
         subst all (sym way) (from r d h.0.sound (subst (λ (x : Run). x.outcome ≡ Done) way live) (Some d) e refl
         (subst (λ (s : Run). (tailed_out (marked_out (copied_out (names_in s.dump) s))).outcome ≡ Done) way done)))
 
-pub run_whole : UpdatesAreRecorded → (s : Schedule) → (run s).outcome ≡ Done → Whole (run s)
-run_whole sound s done = finish_whole s.caps (after_lines s.lines (first_run s.caps)) (lines_good sound s.caps s.lines (first_run s.caps) (first_holds s.caps, tt)) done
+pub run_whole : UpdatesRecord → (s : Schedule) → AreWellFormedLines s.lines → (run s).outcome ≡ Done → Whole (run s)
+run_whole sound s w done = finish_whole s.caps (after_lines s.lines (first_run s.caps)) (lines_good sound s.caps s.lines (first_run s.caps) w (first_holds s.caps, tt)) done

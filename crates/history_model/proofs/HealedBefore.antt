@@ -9,7 +9,9 @@ use Rattle.history_model.specs.Stages.{Write, earlier, not_later, first_ts, Made
 use Rattle.history_model.specs.Runs.{Schedule, Done, Run, started, run}
 use Rattle.history_model.specs.Histories.{history_of, state, moments_of, moments, outcome}
 use Rattle.history_model.specs.Recordings.{made_by, reads_in}
-use Rattle.history_model.specs.Laws.{UpdatesAreRecorded, StartedOn, Whole}
+use Rattle.update_records.specs.Laws.{UpdatesRecord}
+use Rattle.history_model.specs.WellFormed.{AreWellFormedLines}
+use Rattle.history_model.specs.Laws.{StartedOn, Whole}
 use Rattle.state_model.specs.Laws.{CutReplay, SameIsShownAlike}
 use Rattle.copy_model.specs.Laws.{CopyHeals}
 use Rattle.history_model.specs.Histories.{is_before, is_up_to, Moments, at}
@@ -27,11 +29,11 @@ use Rattle.history_model.proofs.Before.{parted, healed_before}
 with_moments : (m : Moments) (a l e : Ts) → m ≡ record { start = Some a; last_read = Some l; end_ts = Some e } → m ≡ record { start = Some a; last_read = m.last_read; end_ts = Some e }
 with_moments m a l e h = λ i. record { start = (h i).start; last_read = m.last_read; end_ts = (h i).end_ts }
 
-healed_of : CopyHeals → CutReplay → SameIsShownAlike → UpdatesAreRecorded → (s : Schedule) (st : StartedOn s.caps (run s)) → (m : MarkedAt (started st.on) (run s)) → Whole (run s) → HealedBefore s
+healed_of : CopyHeals → CutReplay → SameIsShownAlike → UpdatesRecord → (s : Schedule) (st : StartedOn s.caps (run s)) → (m : MarkedAt st.lines (started st.on) (run s)) → Whole (run s) → HealedBefore s
 healed_of heals replayed alike sound s st m w =
     (let r = st.on in
     let t = run s in
-    let p = parted sound s.caps r m.at t m.front m.back st.ok m.made m.live m.rest in
+    let p = parted sound s.caps r m.at t m.front m.back (m.formed st.formed) st.ok m.made m.live m.rest in
     let made_front = made_by p.front (started r) in
     let whole : t.made ≡ r.made ++ ((made_front ++ p.between) ++ p.behind) =
     p.made_all ∙ (ap (λ (z : List Made). z ++ p.behind) (p.made_mark ∙ ap (λ (z : List Made). z ++ p.between) p.made_last)
@@ -56,9 +58,9 @@ healed_of heals replayed alike sound s st m w =
       listed = λ f l late. cut_listed replayed alike f (window_before l r.stage.newest m.at.stage.newest t) (copy_of r.stage.rows (reads_in t.steps [])) (at s l) (heal l late);
     })
 
-pub run_healed_before : CopyHeals → CutReplay → SameIsShownAlike → UpdatesAreRecorded → (s : Schedule) → outcome s ≡ Done → HealedBefore s
-run_healed_before heals replayed alike sound s done =
-    (let st = run_started sound s in
-    let w = run_whole sound s done in
+pub run_healed_before : CopyHeals → CutReplay → SameIsShownAlike → UpdatesRecord → (s : Schedule) → AreWellFormedLines s.lines → outcome s ≡ Done → HealedBefore s
+run_healed_before heals replayed alike sound s formed done =
+    (let st = run_started sound s formed in
+    let w = run_whole sound s formed done in
     let m = mark_found st.lines (started st.on) refl (ap (λ (z : Run). z.outcome) (sym st.whole) ∙ done) (subst Whole st.whole w) in
-    healed_of heals replayed alike sound s st (record { front = m.front; back = m.back; at = m.at; made = m.made; live = m.live; rest = st.whole ∙ m.rest }) w)
+    healed_of heals replayed alike sound s st (record { front = m.front; back = m.back; at = m.at; made = m.made; live = m.live; rest = st.whole ∙ m.rest; formed = m.formed }) w)

@@ -18,7 +18,9 @@ use Rattle.history_model.specs.Runs.{first_entry, first_stage, newest_first}
 use Rattle.history_model.specs.Histories.{history_of, state_from}
 use Rattle.history_model.specs.Recordings.{IsRecordedBy, AllMade, rows_of_made, EachMade, OfRename}
 use Rattle.history_model.specs.Invariants.{RisesTo, UpTo, RenamesUpTo, Holds}
-use Rattle.history_model.specs.Laws.{UpdatesAreRecorded}
+use Rattle.update_records.specs.Laws.{UpdatesRecord}
+use Rattle.history_model.specs.WellFormed.{IsWellFormedCommand}
+use Rattle.history_model.proofs.WellFormed.{IsWellFormedWrite, AreWellFormedEffects, write_formed, nothing_formed, effects_formed}
 use Rattle.std.specs.Prelude.{option_map}
 use Rattle.state_model.specs.States.{Collection}
 use Rattle.state_model.proofs.Maps.{ns_map_same}
@@ -105,9 +107,10 @@ renamed_more (Rename a b) ts o e made low high r l h =
     below : (m : Made) → earlier high m.ts ≡ false → earlier ts m.ts ≡ false
     below m g = earlier_turn m.ts ts (earlier_below high m.ts ts g l)
 
-one_more : (c : Caps) (d : Effect) (st : Stage) (made : List Made) → Holds c st made → IsRecordedBy d.0 d.1 st.rows → Holds c (stage_by d st) (made ++ (made_of d st ∷ []))
-one_more c d st made h r = record {
+one_more : (c : Caps) (d : Effect) (st : Stage) (made : List Made) → Holds c st made → IsWellFormedWrite d.0 → IsRecordedBy d.0 d.1 st.rows → Holds c (stage_by d st) (made ++ (made_of d st ∷ []))
+one_more c d st made h w r = record {
   sound = write_sound d.0 st.rows h.sound;
+  formed = write_formed d.0 st.rows w h.formed;
   recorded = made_snoc made (made_of d st) no_rows h.recorded (subst (λ (z : Rows). IsRecordedBy d.0 d.1 z) (sym h.rows) r);
   rows = rows_snoc made (made_of d st) no_rows ∙ ap (rows_by d.0) h.rows;
   rises = rises_snoc made (made_of d st) first_ts st.newest h.rises (next_later st);
@@ -128,15 +131,15 @@ nothing_behind : (n : ℕ) (b : Option ℕ) (s : ℕ) → kept_behind n b s [] �
 nothing_behind zero b s = refl
 nothing_behind (suc n) b s = refl
 
-many_more : (c : Caps) (ds : List Effect) (st : Stage) (made : List Made) → Holds c st made → EffectsOk ds st.rows → Holds c (stage_after ds st) (made ++ made_in ds st)
-many_more c [] st made h r = subst (λ (z : List Made). Holds c st z) (sym (append_nil made)) h
-many_more c (d ∷ ds) st made h r =
+many_more : (c : Caps) (ds : List Effect) (st : Stage) (made : List Made) → Holds c st made → AreWellFormedEffects ds → EffectsOk ds st.rows → Holds c (stage_after ds st) (made ++ made_in ds st)
+many_more c [] st made h w r = subst (λ (z : List Made). Holds c st z) (sym (append_nil made)) h
+many_more c (d ∷ ds) st made h w r =
     subst (λ (z : List Made). Holds c (stage_after ds (stage_by d st)) z) (append_assoc made (made_of d st ∷ []) (made_in ds (stage_by d st)))
-    (many_more c ds (stage_by d st) (made ++ (made_of d st ∷ [])) (one_more c d st made h r.0) r.1)
+    (many_more c ds (stage_by d st) (made ++ (made_of d st ∷ [])) (one_more c d st made h w.0 r.0) w.1 r.1)
 
 told_holds : (c : Caps) (k : Command) (st : Stage) (made : List Made) → Holds c st made → Holds c (set_by k st) made
-told_holds c (commands.At s) st made h = record { sound = h.sound; recorded = h.recorded; rows = h.rows; rises = h.rises; state = h.state; caps = h.caps; oplog = h.oplog; renamed = h.renamed }
-told_holds c (commands.Recording f) st made h = record { sound = h.sound; recorded = h.recorded; rows = h.rows; rises = h.rises; state = h.state; caps = h.caps; oplog = h.oplog; renamed = h.renamed }
+told_holds c (commands.At s) st made h = record { sound = h.sound; formed = h.formed; recorded = h.recorded; rows = h.rows; rises = h.rises; state = h.state; caps = h.caps; oplog = h.oplog; renamed = h.renamed }
+told_holds c (commands.Recording f) st made h = record { sound = h.sound; formed = h.formed; recorded = h.recorded; rows = h.rows; rises = h.rises; state = h.state; caps = h.caps; oplog = h.oplog; renamed = h.renamed }
 told_holds c (commands.Create n o) st made h = h
 told_holds c (commands.DropColl n) st made h = h
 told_holds c (commands.DropDatabase db) st made h = h
@@ -158,16 +161,16 @@ told_same (commands.CreateIndex n d) st = refl
 told_same (commands.DropIndex n i) st = refl
 told_same (commands.Txn cs) st = refl
 
-pub taken_holds : UpdatesAreRecorded → (c : Caps) (k : Command) (st : Stage) (made : List Made) (x : Stage × List Made) → Holds c st made → applied k st ≡ Ok x → Holds c x.0 (made ++ x.1)
-taken_holds sound c k st made x h e = by (effects k st) refl e
+pub taken_holds : UpdatesRecord → (c : Caps) (k : Command) (st : Stage) (made : List Made) (x : Stage × List Made) → IsWellFormedCommand k → Holds c st made → applied k st ≡ Ok x → Holds c x.0 (made ++ x.1)
+taken_holds sound c k st made x w h e = by (effects k st) refl e
   where
     by : (y : Result (List Effect) Refused) → effects k st ≡ y → answered (set_by k st) y ≡ Ok x → Holds c x.0 (made ++ x.1)
     by (Err z) f g = cc
     by (Ok ds) f g =
-        (let ok = command_ok sound k st ds f in
+        (let ok = command_ok sound k st ds w h.formed f in
         let there : EffectsOk ds (set_by k st).rows = subst (λ (z : Rows). EffectsOk ds z) (sym (told_same k st)) ok in
         subst (λ (z : Stage × List Made). Holds c z.0 (made ++ z.1)) (same_ok (stage_after ds (set_by k st), made_in ds (set_by k st)) x g)
-        (many_more c ds (set_by k st) made (told_holds c k st made h) there))
+        (many_more c ds (set_by k st) made (told_holds c k st made h) (effects_formed k st ds w h.formed f) there))
 
 none_there : (n : NsName) (t : Table) → map.get {R = namespace_cmp} map.empty n ≡ Some t → ⊥
 none_there n t e = (let f = map.get-empty {X = Table} namespace_cmp n in cc)
@@ -179,4 +182,4 @@ pub empty_state : state_of no_rows ≡ map.empty
 empty_state = ns_map_same _ _ (λ n. get_collection no_rows n ∙ (ap (option_map collection_of) (map.get-empty {X = Table} namespace_cmp n) ∙ sym (map.get-empty {X = Collection} namespace_cmp n)))
 
 pub first_holds : (c : Caps) → Holds c (first_stage c) []
-first_holds c = record { sound = nothing_sound; recorded = tt; rows = refl; rises = refl; state = empty_state; caps = refl; oplog = ap (λ (z : Oplog). first_entry ∷ z) (sym (nothing_behind (c.entries - 1) c.bytes (size_of first_entry))); renamed = tt }
+first_holds c = record { sound = nothing_sound; formed = nothing_formed; recorded = tt; rows = refl; rises = refl; state = empty_state; caps = refl; oplog = ap (λ (z : Oplog). first_entry ∷ z) (sym (nothing_behind (c.entries - 1) c.bytes (size_of first_entry))); renamed = tt }

@@ -1,4 +1,5 @@
 pub mod Tables
+pub mod WellFormed
 pub mod Accepted
 pub mod Order
 pub mod RingKept

@@ -19,7 +19,8 @@ use Rattle.history_model.specs.Commands.{applied}
 use Rattle.history_model.specs.Runs.{Refusal, NotNow, NoCursor, DumpState, Outcome, Done, Renamed, Rolled, Step, Documents, Entries, Run, entries_from, window, is_gone, seen, looked, all_ended, read_on, copied_by, copied, renamed_since, rolled_or, rolled, marked_by, marked, sent_on, tailed_to, tailed, still, in_dump, dumped, commanded, or_refused, after_line, after_lines}
 use Rattle.history_model.specs.Recordings.{OfRename, NoRenames, events_of_singles, events_of_write, events_of_made, made_of_answer, made_by_line, made_by, events_of_line, events_of_lines, reads_in}
 use Rattle.history_model.specs.Invariants.{RunOk, Mirrors}
-use Rattle.history_model.specs.Laws.{UpdatesAreRecorded}
+use Rattle.update_records.specs.Laws.{UpdatesRecord}
+use Rattle.history_model.specs.WellFormed.{IsWellFormedLine, AreWellFormedLines}
 use Rattle.copy_model.specs.Cursors.{read_rows, close}
 use Rattle.history_model.proofs.Modelled.{line_leading, each_first, Leading}
 use Rattle.history_model.proofs.Runs.{lines_good}
@@ -199,10 +200,10 @@ refused_mirrors : (i : ℕ) (r : Run) (x : Result Run Refusal) (w v : Reading) �
 refused_mirrors i r (Ok s) w v h = h
 refused_mirrors i r (Err y) w v h = record { copy = h.copy; there = h.there; rows = h.rows; cursors = h.cursors; reads = h.reads }
 
-pub line_mirrors : UpdatesAreRecorded → (c : Caps) (i : ℕ) (l : Line) (r : Run) (w : Reading) → RunOk c r → r.outcome ≡ Done → NoRenames (made_by_line l r) → Mirrors r w →
+pub line_mirrors : UpdatesRecord → (c : Caps) (i : ℕ) (l : Line) (r : Run) (w : Reading) → IsWellFormedLine l → RunOk c r → r.outcome ≡ Done → NoRenames (made_by_line l r) → Mirrors r w →
     Mirrors (after_line (i, l) r) (after (events_of_line l r) w)
-line_mirrors sound c i (Cmd k) r w ok live none m =
-    by (applied k r.stage) refl (line_leading sound c i (Cmd k) r ok none)
+line_mirrors sound c i (Cmd k) r w f ok live none m =
+    by (applied k r.stage) refl (line_leading sound c i (Cmd k) r f ok none)
   where
     by : (y : Result (Stage × List Made) Refused) → applied k r.stage ≡ y → Leading (events_of_made (made_of_answer y)) r.stage.rows (or_refused i (commanded y r) r).stage.rows →
         Mirrors (or_refused i (commanded y r) r) (after (events_of_made (made_of_answer y)) w)
@@ -210,18 +211,18 @@ line_mirrors sound c i (Cmd k) r w ok live none m =
     by (Ok x) e g =
         (let v = written_world (events_of_made x.1) r.stage.rows w (made_writes x.1) m.rows in
         record { copy = m.copy; there = m.there; rows = v.0 ∙ g.1; cursors = v.1 ∙ m.cursors; reads = v.2 ∙ m.reads })
-line_mirrors sound c i Dump r w ok live none m =
+line_mirrors sound c i Dump r w f ok live none m =
     subst (λ (o : Option DumpState). Mirrors (or_refused i (dumped o r) r) w) (sym m.there) (record { copy = m.copy; there = m.there; rows = m.rows; cursors = m.cursors; reads = m.reads })
-line_mirrors sound c i (Copy n k) r w ok live none m = refused_mirrors i r (in_dump (copied n k) r.dump r) w (copy_step n k w) (copy_mirrors n k r w live m)
-line_mirrors sound c i Mark r w ok live none m = refused_mirrors i r (in_dump marked r.dump r) w w (mark_mirrors r w m)
-line_mirrors sound c i (Tail n) r w ok live none m = refused_mirrors i r (in_dump (tailed n) r.dump r) w w (tail_mirrors n r w m)
+line_mirrors sound c i (Copy n k) r w f ok live none m = refused_mirrors i r (in_dump (copied n k) r.dump r) w (copy_step n k w) (copy_mirrors n k r w live m)
+line_mirrors sound c i Mark r w f ok live none m = refused_mirrors i r (in_dump marked r.dump r) w w (mark_mirrors r w m)
+line_mirrors sound c i (Tail n) r w f ok live none m = refused_mirrors i r (in_dump (tailed n) r.dump r) w w (tail_mirrors n r w m)
 
-pub lines_mirror : UpdatesAreRecorded → (c : Caps) (ls : List (ℕ × Line)) (r : Run) (w : Reading) → RunOk c r → NoRenames (made_by ls r) → Mirrors r w → (after_lines ls r).outcome ≡ Done →
+pub lines_mirror : UpdatesRecord → (c : Caps) (ls : List (ℕ × Line)) (r : Run) (w : Reading) → AreWellFormedLines ls → RunOk c r → NoRenames (made_by ls r) → Mirrors r w → (after_lines ls r).outcome ≡ Done →
     Mirrors (after_lines ls r) (after (events_of_lines ls r) w)
-lines_mirror sound c [] r w ok none m h = m
-lines_mirror sound c (l ∷ ls) r w ok none m h =
+lines_mirror sound c [] r w f ok none m h = m
+lines_mirror sound c (l ∷ ls) r w f ok none m h =
     (let g = each_first (λ (m : Made). OfRename m.write ⊥) (made_by_line l.1 r) (made_by ls (after_line l r)) none in
     let live = lines_stay (l ∷ ls) r h in
-    let one = line_mirrors sound c l.0 l.1 r w ok live g.0 m in
-    let more = lines_mirror sound c ls (after_line l r) (after (events_of_line l.1 r) w) (lines_good sound c (l ∷ []) r ok) g.1 one h in
+    let one = line_mirrors sound c l.0 l.1 r w f.0 ok live g.0 m in
+    let more = lines_mirror sound c ls (after_line l r) (after (events_of_line l.1 r) w) f.1 (lines_good sound c (l ∷ []) r (f.0, tt) ok) g.1 one h in
     subst (λ (v : Reading). Mirrors (after_lines ls (after_line l r)) v) (sym (after_join (events_of_line l.1 r) (events_of_lines ls (after_line l r)) w)) more)

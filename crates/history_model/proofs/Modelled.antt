@@ -19,7 +19,8 @@ use Rattle.history_model.specs.Commands.{effects, set_by, answered, applied}
 use Rattle.history_model.specs.Runs.{Refusal, NotNow, NoCursor, DumpState, Outcome, Done, Renamed, Rolled, Run, entries_from, window, is_gone, looked, all_ended, read_on, copied_by, copied, renamed_since, rolled_or, rolled, marked_by, marked, sent_on, tailed_to, tailed, still, in_dump, dumped, commanded, on_line, or_refused, after_line, after_lines}
 use Rattle.history_model.specs.Recordings.{EachRecorded, IsRecordedBy, AllMade, rows_of_made, EachMade, OfRename, NoRenames, events_of_singles, events_of_write, events_of_made, made_of_answer, made_by_line, made_by, events_of_line, events_of_lines}
 use Rattle.history_model.specs.Invariants.{RunOk}
-use Rattle.history_model.specs.Laws.{UpdatesAreRecorded}
+use Rattle.update_records.specs.Laws.{UpdatesRecord}
+use Rattle.history_model.specs.WellFormed.{AreWellFormed, IsWellFormedCommand, IsWellFormedLine, AreWellFormedLines}
 use Rattle.history_model.proofs.Inductive.{told_same}
 use Rattle.history_model.proofs.Accepted.{EffectsOk, command_ok, made_ok, same_ok}
 use Rattle.history_model.proofs.Runs.{lines_good}
@@ -140,14 +141,14 @@ made_rows [] st = refl
 made_rows (d ∷ ds) st = made_rows ds (stage_by d st)
 
 -- what a command makes is recorded, and makes the rows after it
-pub taken_made : UpdatesAreRecorded → (k : Command) (st : Stage) (x : Stage × List Made) → applied k st ≡ Ok x → AllMade x.1 st.rows × (rows_of_made x.1 st.rows ≡ x.0.rows)
-taken_made sound k st x e = by (effects k st) refl e
+pub taken_made : UpdatesRecord → (k : Command) (st : Stage) (x : Stage × List Made) → IsWellFormedCommand k → AreWellFormed st.rows → applied k st ≡ Ok x → AllMade x.1 st.rows × (rows_of_made x.1 st.rows ≡ x.0.rows)
+taken_made sound k st x w formed e = by (effects k st) refl e
   where
     by : (y : Result (List Effect) Refused) → effects k st ≡ y → answered (set_by k st) y ≡ Ok x → AllMade x.1 st.rows × (rows_of_made x.1 st.rows ≡ x.0.rows)
     by (Err z) f g = cc
     by (Ok ds) f g =
         (let on = told_same k st in
-        let ok : EffectsOk ds (set_by k st).rows = subst (λ (z : Rows). EffectsOk ds z) (sym on) (command_ok sound k st ds f) in
+        let ok : EffectsOk ds (set_by k st).rows = subst (λ (z : Rows). EffectsOk ds z) (sym on) (command_ok sound k st ds w formed f) in
         let both : AllMade (made_in ds (set_by k st)) (set_by k st).rows × (rows_of_made (made_in ds (set_by k st)) (set_by k st).rows ≡ (stage_after ds (set_by k st)).rows) =
         (made_ok ds (set_by k st) ok, made_rows ds (set_by k st)) in
         subst (λ (z : Stage × List Made). AllMade z.1 st.rows × (rows_of_made z.1 st.rows ≡ z.0.rows)) (same_ok (stage_after ds (set_by k st), made_in ds (set_by k st)) x g)
@@ -157,22 +158,22 @@ pub each_first : (P : Made → Type 0) (ms ns : List Made) → EachMade P (ms ++
 each_first P [] ns h = (tt, h)
 each_first P (m ∷ ms) ns h = (let g = each_first P ms ns h.1 in ((h.0, g.0), g.1))
 
-pub line_leading : UpdatesAreRecorded → (c : Caps) (number : ℕ) (l : Line) (r : Run) → RunOk c r → NoRenames (made_by_line l r) → Leading (events_of_line l r) r.stage.rows (after_line (number, l) r).stage.rows
-line_leading sound c number (Cmd k) r h none = by (applied k r.stage) refl none
+pub line_leading : UpdatesRecord → (c : Caps) (number : ℕ) (l : Line) (r : Run) → IsWellFormedLine l → RunOk c r → NoRenames (made_by_line l r) → Leading (events_of_line l r) r.stage.rows (after_line (number, l) r).stage.rows
+line_leading sound c number (Cmd k) r w h none = by (applied k r.stage) refl none
   where
     by : (y : Result (Stage × List Made) Refused) → applied k r.stage ≡ y → NoRenames (made_of_answer y) → Leading (events_of_made (made_of_answer y)) r.stage.rows (or_refused number (commanded y r) r).stage.rows
     by (Err x) e g = (tt, refl)
     by (Ok x) e g =
-        (let t = taken_made sound k r.stage x e in
+        (let t = taken_made sound k r.stage x w h.0.formed e in
         subst (λ (z : Rows). Leading (events_of_made x.1) r.stage.rows z) t.1 (made_leading x.1 r.stage.rows t.0 g))
-line_leading sound c number Dump r h none = (tt, sym (ap (λ (s : Stage). s.rows) (same_after number Dump r tt)))
-line_leading sound c number (Copy n k) r h none = (tt, sym (ap (λ (s : Stage). s.rows) (same_after number (Copy n k) r tt)))
-line_leading sound c number Mark r h none = (tt, sym (ap (λ (s : Stage). s.rows) (same_after number Mark r tt)))
-line_leading sound c number (Tail n) r h none = (tt, sym (ap (λ (s : Stage). s.rows) (same_after number (Tail n) r tt)))
+line_leading sound c number Dump r w h none = (tt, sym (ap (λ (s : Stage). s.rows) (same_after number Dump r tt)))
+line_leading sound c number (Copy n k) r w h none = (tt, sym (ap (λ (s : Stage). s.rows) (same_after number (Copy n k) r tt)))
+line_leading sound c number Mark r w h none = (tt, sym (ap (λ (s : Stage). s.rows) (same_after number Mark r tt)))
+line_leading sound c number (Tail n) r w h none = (tt, sym (ap (λ (s : Stage). s.rows) (same_after number (Tail n) r tt)))
 
-pub lines_leading : UpdatesAreRecorded → (c : Caps) (ls : List (ℕ × Line)) (r : Run) → RunOk c r → NoRenames (made_by ls r) → Leading (events_of_lines ls r) r.stage.rows (after_lines ls r).stage.rows
-lines_leading sound c [] r h none = (tt, refl)
-lines_leading sound c (l ∷ ls) r h none =
+pub lines_leading : UpdatesRecord → (c : Caps) (ls : List (ℕ × Line)) (r : Run) → AreWellFormedLines ls → RunOk c r → NoRenames (made_by ls r) → Leading (events_of_lines ls r) r.stage.rows (after_lines ls r).stage.rows
+lines_leading sound c [] r w h none = (tt, refl)
+lines_leading sound c (l ∷ ls) r w h none =
     (let g = each_first (λ (m : Made). OfRename m.write ⊥) (made_by_line l.1 r) (made_by ls (after_line l r)) none in
     leading_join (events_of_line l.1 r) (events_of_lines ls (after_line l r)) r.stage.rows (after_line l r).stage.rows (after_lines ls (after_line l r)).stage.rows
-    (line_leading sound c l.0 l.1 r h g.0) (lines_leading sound c ls (after_line l r) (lines_good sound c (l ∷ []) r h) g.1))
+    (line_leading sound c l.0 l.1 r w.0 h g.0) (lines_leading sound c ls (after_line l r) w.1 (lines_good sound c (l ∷ []) r (w.0, tt) h) g.1))

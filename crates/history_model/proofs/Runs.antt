@@ -16,7 +16,8 @@ use Rattle.history_model.specs.Commands.{effects, set_by, answered, applied}
 use Rattle.history_model.specs.Runs.{Schedule, Refusal, NotNow, NoCursor, DumpState, Outcome, Done, Renamed, Rolled, Run, first_run, entries_from, window, is_gone, looked, all_ended, read_on, copied_by, copied, renamed_since, rolled_or, rolled, marked_by, marked, sent_on, tailed_to, tailed, still, in_dump, dumped, commanded, on_line, or_refused, after_line, after_lines, repeated, last_step, names_in, rows_left, copied_out, begun, marked_out, finished, run}
 use Rattle.history_model.specs.Recordings.{OfRename}
 use Rattle.history_model.specs.Invariants.{RisesTo, UpTo, NoRename, Holds, MarkedOk, DumpOk, RunOk}
-use Rattle.history_model.specs.Laws.{UpdatesAreRecorded}
+use Rattle.update_records.specs.Laws.{UpdatesRecord}
+use Rattle.history_model.specs.WellFormed.{IsWellFormedCommand, IsWellFormedLine, AreWellFormedLines}
 use Rattle.history_model.proofs.Order.{next_later, earlier_trans, earlier_not, earlier_below}
 use Rattle.history_model.proofs.Accepted.{same_ok}
 use Rattle.history_model.proofs.Inductive.{taken_holds, first_holds, each_map, each_join, all_above, rises_on, of_rename, always}
@@ -70,12 +71,12 @@ abbrev pub GoodAfter : Caps → Result Run Refusal → Type 0
 GoodAfter c (Ok r) = RunOk c r
 GoodAfter c (Err x) = ⊤
 
-command_good : UpdatesAreRecorded → (c : Caps) (k : Command) (r : Run) → RunOk c r → GoodAfter c (on_line (Cmd k) r)
-command_good sound c k r h = by (applied k r.stage) refl
+command_good : UpdatesRecord → (c : Caps) (k : Command) (r : Run) → IsWellFormedCommand k → RunOk c r → GoodAfter c (on_line (Cmd k) r)
+command_good sound c k r w h = by (applied k r.stage) refl
   where
     by : (y : Result (Stage × List Made) Refused) → applied k r.stage ≡ y → GoodAfter c (commanded y r)
     by (Err x) e = tt
-    by (Ok x) e = (taken_holds sound c k r.stage r.made x h.0 e, dump_on r.dump r.stage x.0 r.made x.1 (taken_rises k r.stage x e) h.1)
+    by (Ok x) e = (taken_holds sound c k r.stage r.made x w h.0 e, dump_on r.dump r.stage x.0 r.made x.1 (taken_rises k r.stage x e) h.1)
 
 abbrev pub KeepsGood : Caps → (DumpState → Run → Result Run Refusal) → Type 0
 KeepsGood c g = (d : DumpState) (r : Run) → Holds c r.stage r.made → MarkedOk d.start d.mark r.stage r.made → DumpOk r.dump r.stage r.made → GoodAfter c (g d r)
@@ -139,48 +140,48 @@ step_good c g k r h = by r.dump refl
         on (Renamed ts) = h
         on (Rolled a b) = h
 
-pub line_good : UpdatesAreRecorded → (c : Caps) (l : Line) (r : Run) → RunOk c r → GoodAfter c (on_line l r)
-line_good sound c (Cmd k) r h = command_good sound c k r h
-line_good sound c Dump r h = by r.dump
+pub line_good : UpdatesRecord → (c : Caps) (l : Line) (r : Run) → IsWellFormedLine l → RunOk c r → GoodAfter c (on_line l r)
+line_good sound c (Cmd k) r w h = command_good sound c k r w h
+line_good sound c Dump r w h = by r.dump
   where
     by : (o : Option DumpState) → GoodAfter c (dumped o r)
     by None = (h.0, tt)
     by (Some d) = tt
-line_good sound c (Copy n k) r h = step_good c (copied n k) (copy_good c n k) r h
-line_good sound c Mark r h = step_good c marked (mark_good c) r h
-line_good sound c (Tail n) r h = step_good c (tailed n) (tail_good c n) r h
+line_good sound c (Copy n k) r w h = step_good c (copied n k) (copy_good c n k) r h
+line_good sound c Mark r w h = step_good c marked (mark_good c) r h
+line_good sound c (Tail n) r w h = step_good c (tailed n) (tail_good c n) r h
 
-pub lines_good : UpdatesAreRecorded → (c : Caps) (ls : List (ℕ × Line)) (r : Run) → RunOk c r → RunOk c (after_lines ls r)
-lines_good sound c [] r h = h
-lines_good sound c (l ∷ ls) r h = lines_good sound c ls (after_line l r) (by (on_line l.1 r) (line_good sound c l.1 r h))
+pub lines_good : UpdatesRecord → (c : Caps) (ls : List (ℕ × Line)) (r : Run) → AreWellFormedLines ls → RunOk c r → RunOk c (after_lines ls r)
+lines_good sound c [] r w h = h
+lines_good sound c (l ∷ ls) r w h = lines_good sound c ls (after_line l r) w.1 (by (on_line l.1 r) (line_good sound c l.1 r w.0 h))
   where
     by : (x : Result Run Refusal) → GoodAfter c x → RunOk c (or_refused l.0 x r)
     by (Ok s) g = g
     by (Err x) g = h
 
-repeated_good : UpdatesAreRecorded → (c : Caps) (l : Line) (n : ℕ) (r : Run) → RunOk c r → RunOk c (repeated n (on_line l) r)
-repeated_good sound c l zero r h = h
-repeated_good sound c l (suc n) r h = by (on_line l r) (line_good sound c l r h) (λ s g. repeated_good sound c l n s g)
+repeated_good : UpdatesRecord → (c : Caps) (l : Line) (n : ℕ) (r : Run) → IsWellFormedLine l → RunOk c r → RunOk c (repeated n (on_line l) r)
+repeated_good sound c l zero r w h = h
+repeated_good sound c l (suc n) r w h = by (on_line l r) (line_good sound c l r w h) (λ s g. repeated_good sound c l n s w g)
   where
     by : (x : Result Run Refusal) → GoodAfter c x → ((s : Run) → RunOk c s → RunOk c (repeated n (on_line l) s)) → RunOk c (elim x [ Ok s ↦ repeated n (on_line l) s | Err y ↦ r ])
     by (Ok s) g rest = rest s g
     by (Err y) g rest = h
 
-copied_good : UpdatesAreRecorded → (c : Caps) (ns : List NsName) (r : Run) → RunOk c r → RunOk c (copied_out ns r)
+copied_good : UpdatesRecord → (c : Caps) (ns : List NsName) (r : Run) → RunOk c r → RunOk c (copied_out ns r)
 copied_good sound c [] r h = h
 copied_good sound c (n ∷ ns) r h =
-    copied_good sound c ns (repeated (suc (rows_left (map.get r.stage.rows.tables n))) (on_line (Copy n last_step)) r) (repeated_good sound c (Copy n last_step) (suc (rows_left (map.get r.stage.rows.tables n))) r h)
+    copied_good sound c ns (repeated (suc (rows_left (map.get r.stage.rows.tables n))) (on_line (Copy n last_step)) r) (repeated_good sound c (Copy n last_step) (suc (rows_left (map.get r.stage.rows.tables n))) r tt h)
 
 begun_good : (c : Caps) (o : Option DumpState) (r : Run) → RunOk c r → RunOk c (begun o r)
 begun_good c None r h = (h.0, tt)
 begun_good c (Some d) r h = h
 
-pub finished_good : UpdatesAreRecorded → (c : Caps) (r : Run) → RunOk c r → RunOk c (finished r)
+pub finished_good : UpdatesRecord → (c : Caps) (r : Run) → RunOk c r → RunOk c (finished r)
 finished_good sound c r h =
     (let s = begun r.dump r in
     let a = copied_good sound c (names_in s.dump) s (begun_good c r.dump r h) in
-    let b = repeated_good sound c Mark 1 (copied_out (names_in s.dump) s) a in
-    repeated_good sound c (Tail last_step) (suc (length (marked_out (copied_out (names_in s.dump) s)).made)) (marked_out (copied_out (names_in s.dump) s)) b)
+    let b = repeated_good sound c Mark 1 (copied_out (names_in s.dump) s) tt a in
+    repeated_good sound c (Tail last_step) (suc (length (marked_out (copied_out (names_in s.dump) s)).made)) (marked_out (copied_out (names_in s.dump) s)) tt b)
 
-pub run_good : UpdatesAreRecorded → (s : Schedule) → RunOk s.caps (run s)
-run_good sound s = finished_good sound s.caps (after_lines s.lines (first_run s.caps)) (lines_good sound s.caps s.lines (first_run s.caps) (first_holds s.caps, tt))
+pub run_good : UpdatesRecord → (s : Schedule) → AreWellFormedLines s.lines → RunOk s.caps (run s)
+run_good sound s w = finished_good sound s.caps (after_lines s.lines (first_run s.caps)) (lines_good sound s.caps s.lines (first_run s.caps) w (first_holds s.caps, tt))

@@ -21,7 +21,8 @@ use Rattle.history_model.specs.Commands.{applied}
 use Rattle.history_model.specs.Runs.{Step, Run, started, after_line, after_lines}
 use Rattle.history_model.specs.Recordings.{EachRecorded, IsRecordedBy, AllMade, rows_of_made, moves_made, events_of_singles, events_of_write, events_of_made, made_of_answer, made_by_line, made_by, events_of_line, events_of_lines, reads_in}
 use Rattle.history_model.specs.Invariants.{RunOk}
-use Rattle.history_model.specs.Laws.{UpdatesAreRecorded}
+use Rattle.update_records.specs.Laws.{UpdatesRecord}
+use Rattle.history_model.specs.WellFormed.{IsWellFormedLine, AreWellFormedLines}
 use Rattle.std.specs.Prelude.{map as each}
 use Rattle.copy_model.specs.Laws.{CopyHeals, Follow}
 use Rattle.history_model.specs.Laws.{LinesHeal}
@@ -71,23 +72,23 @@ pub moves_join : (xs ys : List Made) → moves_made (xs ++ ys) ≡ moves_made xs
 moves_join [] ys = refl
 moves_join (m ∷ xs) ys = ap (λ (z : List Move). content_moves m.content ++ z) (moves_join xs ys) ∙ sym (append_assoc (content_moves m.content) (moves_made xs) (moves_made ys))
 
-line_moves : UpdatesAreRecorded → (c : Caps) (l : Line) (r : Run) → RunOk c r → moves_of (events_of_line l r) ≡ moves_made (made_by_line l r)
-line_moves sound c (Cmd k) r h = by (applied k r.stage) refl
+line_moves : UpdatesRecord → (c : Caps) (l : Line) (r : Run) → IsWellFormedLine l → RunOk c r → moves_of (events_of_line l r) ≡ moves_made (made_by_line l r)
+line_moves sound c (Cmd k) r w h = by (applied k r.stage) refl
   where
     by : (y : Result (Stage × List Made) Refused) → applied k r.stage ≡ y → moves_of (events_of_made (made_of_answer y)) ≡ moves_made (made_of_answer y)
     by (Err x) e = refl
-    by (Ok x) e = made_moves x.1 r.stage.rows (taken_made sound k r.stage x e).0
-line_moves sound c Dump r h = refl
-line_moves sound c (Copy n k) r h = refl
-line_moves sound c Mark r h = refl
-line_moves sound c (Tail n) r h = refl
+    by (Ok x) e = made_moves x.1 r.stage.rows (taken_made sound k r.stage x w h.0.formed e).0
+line_moves sound c Dump r w h = refl
+line_moves sound c (Copy n k) r w h = refl
+line_moves sound c Mark r w h = refl
+line_moves sound c (Tail n) r w h = refl
 
-pub lines_moves : UpdatesAreRecorded → (c : Caps) (ls : List (ℕ × Line)) (r : Run) → RunOk c r → moves_of (events_of_lines ls r) ≡ moves_made (made_by ls r)
-lines_moves sound c [] r h = refl
-lines_moves sound c (l ∷ ls) r h =
+pub lines_moves : UpdatesRecord → (c : Caps) (ls : List (ℕ × Line)) (r : Run) → AreWellFormedLines ls → RunOk c r → moves_of (events_of_lines ls r) ≡ moves_made (made_by ls r)
+lines_moves sound c [] r w h = refl
+lines_moves sound c (l ∷ ls) r w h =
     moves_of_join (events_of_line l.1 r) (events_of_lines ls (after_line l r))
-    ∙ (ap (λ (z : List Move). z ++ moves_of (events_of_lines ls (after_line l r))) (line_moves sound c l.1 r h)
-    ∙ (ap (λ (z : List Move). moves_made (made_by_line l.1 r) ++ z) (lines_moves sound c ls (after_line l r) (lines_good sound c (l ∷ []) r h))
+    ∙ (ap (λ (z : List Move). z ++ moves_of (events_of_lines ls (after_line l r))) (line_moves sound c l.1 r w.0 h)
+    ∙ (ap (λ (z : List Move). moves_made (made_by_line l.1 r) ++ z) (lines_moves sound c ls (after_line l r) w.1 (lines_good sound c (l ∷ []) r (w.0, tt) h))
     ∙ sym (moves_join (made_by_line l.1 r) (made_by ls (after_line l r)))))
 
 -- a history cut in two
@@ -104,15 +105,15 @@ made_sound [] r ok = ok
 made_sound (m ∷ ms) r ok = made_sound ms (rows_by m.write r) (write_sound m.write r ok)
 
 -- the dump starts on r, whose last writes are first; behind the lines that follow every cursor has ended and nothing failed
-pub torn_run : CopyHeals → UpdatesAreRecorded → LinesHeal
-torn_run heals sound c r earlier first ls h none made nf nl live out =
+pub torn_run : CopyHeals → UpdatesRecord → LinesHeal
+torn_run heals sound c r earlier first ls w h none made nf nl live out =
     (let ok : RunOk c (started r) = (h.0, tt) in
     let before = rows_of_made earlier no_rows in
     let parts = made_parted earlier first no_rows (subst (λ (z : List Made). AllMade z no_rows) made h.0.recorded) in
     let led = made_leading first before parts.1 nf in
     let now : rows_after (events_of_made first) before ≡ r.stage.rows = led.1 ∙ (sym (rows_parted earlier first no_rows) ∙ (ap (λ (z : List Made). rows_of_made z no_rows) (sym made) ∙ h.0.rows)) in
-    let lines = lines_leading sound c ls (started r) ok nl in
-    let m = lines_mirror sound c ls (started r) (begin r.stage.rows) ok nl (record { copy = _; there = refl; rows = refl; cursors = refl; reads = ap (λ (z : List Step). reads_in z []) (sym none) }) live in
+    let lines = lines_leading sound c ls (started r) w ok nl in
+    let m = lines_mirror sound c ls (started r) (begin r.stage.rows) w ok nl (record { copy = _; there = refl; rows = refl; cursors = refl; reads = ap (λ (z : List Step). reads_in z []) (sym none) }) live in
     let ended : AllEnded (after (events_of_lines ls (started r)) (begin r.stage.rows)) = (λ n x e. out m.copy m.there n x (subst (λ (z : map.FinMap namespace_cmp Cursor). map.get z n ≡ Some x) m.cursors e)) in
     let follow : Follow before (events_of_made first) (events_of_lines ls (started r)) = record {
       sound = made_sound earlier no_rows nothing_sound;
@@ -122,7 +123,7 @@ torn_run heals sound c r earlier first ls h none made nf nl live out =
     let healed = heals before (events_of_made first) (events_of_lines ls (started r)) follow (subst (λ (z : Rows). AllEnded (after (events_of_lines ls (started r)) (begin z))) (sym now) ended) in
     let moves : moves_of (events_of_made first) ++ moves_of (events_of_lines ls (started r)) ≡ moves_made (first ++ made_by ls (started r)) =
     ap (λ (z : List Move). z ++ moves_of (events_of_lines ls (started r))) (made_moves first before parts.1)
-    ∙ (ap (λ (z : List Move). moves_made first ++ z) (lines_moves sound c ls (started r) ok) ∙ sym (moves_join first (made_by ls (started r)))) in
+    ∙ (ap (λ (z : List Move). moves_made first ++ z) (lines_moves sound c ls (started r) w ok) ∙ sym (moves_join first (made_by ls (started r)))) in
     let step1 = subst (λ (z : Rows). SameStates (replay_all (moves_of (events_of_made first) ++ moves_of (events_of_lines ls (started r))) (copy_of z (after (events_of_lines ls (started r)) (begin z)).reads)) (state_of (after (events_of_lines ls (started r)) (begin z)).rows)) now healed in
     let step2 = subst (λ (g : List Read). SameStates (replay_all (moves_of (events_of_made first) ++ moves_of (events_of_lines ls (started r))) (copy_of r.stage.rows g)) (state_of (after (events_of_lines ls (started r)) (begin r.stage.rows)).rows)) m.reads step1 in
     let step3 = subst (λ (z : Rows). SameStates (replay_all (moves_of (events_of_made first) ++ moves_of (events_of_lines ls (started r))) (copy_of r.stage.rows (reads_in (after_lines ls (started r)).steps []))) (state_of z)) m.rows step2 in

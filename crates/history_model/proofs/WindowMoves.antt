@@ -15,7 +15,8 @@ use Rattle.history_model.specs.Stages.{earlier, not_later, first_ts, Caps, Stage
 use Rattle.history_model.specs.Runs.{Refusal, NotNow, DumpState, Outcome, Done, Renamed, Rolled, Step, Run, first_entry, entries_from, window, is_gone, started, all_ended, renamed_since, rolled, marked_by, marked, still, in_dump, on_line, after_lines}
 use Rattle.history_model.specs.Recordings.{moves_made, moves_recorded, EachMade, made_by, reads_in}
 use Rattle.history_model.specs.Invariants.{RisesTo, RunOk}
-use Rattle.history_model.specs.Laws.{UpdatesAreRecorded}
+use Rattle.update_records.specs.Laws.{UpdatesRecord}
+use Rattle.history_model.specs.WellFormed.{AreWellFormedLines}
 use Rattle.copy_model.specs.Laws.{CopyHeals}
 use Rattle.history_model.proofs.Order.{earlier_turn, earlier_not}
 use Rattle.history_model.proofs.Inductive.{each_both, rises_on, none_above, all_above}
@@ -132,12 +133,12 @@ mark_steps r s h = by r.dump h
     by None g = cc
     by (Some d) g = live d r.outcome g
 
-pub torn_window : CopyHeals → UpdatesAreRecorded → (c : Caps) (r s : Run) (ls : List (ℕ × Line)) → RunOk c r → r.steps ≡ [] → on_line Mark (after_lines ls (started r)) ≡ Ok s → s.outcome ≡ Done →
+pub torn_window : CopyHeals → UpdatesRecord → (c : Caps) (r s : Run) (ls : List (ℕ × Line)) → AreWellFormedLines ls → RunOk c r → r.steps ≡ [] → on_line Mark (after_lines ls (started r)) ≡ Ok s → s.outcome ≡ Done →
     SameStates (replay_all (moves_recorded (window r.stage.newest s.stage.newest (entries_from s))) (copy_of r.stage.rows (reads_in s.steps []))) (state_of s.stage.rows)
-torn_window heals sound c r s ls h none e done =
+torn_window heals sound c r s ls w h none e done =
     (let end = after_lines ls (started r) in
     let base : (s.stage ≡ end.stage) × (s.made ≡ end.made) = subst (λ (x : Result Run Refusal). SameBase end x) e (line_same Mark end tt) in
-    let out = torn_at_mark heals sound c r s ls h none e done in
+    let out = torn_at_mark heals sound c r s ls w h none e done in
     let moves : moves_recorded (window r.stage.newest s.stage.newest (entries_from s)) ≡ moves_made (last_made r.made ++ made_by ls (started r)) =
     ap (λ (z : Stage). moves_recorded (window r.stage.newest z.newest (entries_from s))) base.0
     ∙ (ap (λ (z : List Made). moves_recorded (window r.stage.newest end.stage.newest (first_entry ∷ each entry_of z))) (base.1 ∙ lines_made ls (started r))

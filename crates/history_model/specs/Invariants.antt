@@ -10,6 +10,7 @@ use Rattle.history_model.specs.Entries.{OplogEntry}
 use Rattle.history_model.specs.Stages.{Caps, Stage, Made, first_ts, earlier, not_later, kept}
 use Rattle.history_model.specs.Runs.{Run, DumpState, first_entry, newest_first}
 use Rattle.history_model.specs.Histories.{history_of, state}
+use Rattle.history_model.specs.WellFormed.{AreWellFormed}
 use Rattle.history_model.specs.Recordings.{AllMade, rows_of_made, EachMade, OfRename, reads_in}
 
 -- timestamps rise strictly from the one moment to the other
@@ -29,9 +30,10 @@ RenamesUpTo o ms = EachMade (λ (m : Made). OfRename m.write (UpTo o m.ts)) ms
 abbrev pub NoRename : Ts → Ts → List Made → Type 0
 NoRename a b ms = EachMade (λ (m : Made). OfRename m.write ((not_later a m.ts && not_later m.ts b) ≡ false)) ms
 
--- of a stage and of all that was made up to it: rows are in order; each write is recorded by its entry; the rows are those of the writes; timestamps rise up to the newest; the state of the history is that of the rows; the oplog has the entries that the caps allow; no rename is later than the one that is noted
+-- of a stage and of all that was made up to it: rows are in order, with well-formed documents; each write is recorded by its entry; the rows are those of the writes; timestamps rise up to the newest; the state of the history is that of the rows; the oplog has the entries that the caps allow; no rename is later than the one that is noted
 pub record Holds (c : Caps) (st : Stage) (made : List Made) : Type 0 where
   pub sound : AreSound st.rows
+  pub formed : AreWellFormed st.rows
   pub recorded : AllMade made no_rows
   pub rows : rows_of_made made no_rows ≡ st.rows
   pub rises : RisesTo first_ts made st.newest

@@ -6,6 +6,7 @@ pub mod Commands
 pub mod Runs
 pub mod Histories
 pub mod Recordings
+pub mod WellFormed
 pub mod Invariants
 pub mod Indexes
 pub mod Laws

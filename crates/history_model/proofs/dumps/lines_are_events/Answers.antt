@@ -2,4 +2,4 @@ use Rattle.history_model.proofs.Modelled.{lines_leading}
 use Rattle.history_model.proofs.dumps.lines_are_events.Goals as goal
 
 pub returns : goal.returns
-returns c = record { recorded = λ sound c ls r h g. (lines_leading sound c ls r h g).0; lead = λ sound c ls r h g. (lines_leading sound c ls r h g).1 }
+returns c = record { recorded = λ caps ls r w h g. (lines_leading c.updates_record.ensures caps ls r w h g).0; lead = λ caps ls r w h g. (lines_leading c.updates_record.ensures caps ls r w h g).1 }

@@ -2,4 +2,4 @@ use Rattle.history_model.proofs.Runs.{run_good}
 use Rattle.history_model.proofs.histories.history_is_recorded.Goals as goal
 
 pub returns : goal.returns
-returns c = λ sound s. (run_good sound s).0.recorded
+returns c = λ s w. (run_good c.updates_record.ensures s w).0.recorded

@@ -1,0 +1,13 @@
+pub mod Levels
+pub mod Texts
+pub mod Formed
+pub mod Spelled
+pub mod Once
+pub mod Decoded
+pub mod Changed
+pub mod Acts
+pub mod Paths
+pub mod Made
+pub mod Writable
+pub mod Written
+pub mod Records
