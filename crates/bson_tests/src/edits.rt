@@ -57,7 +57,8 @@ const SET: [(&str, &str); 2] = [
 
 fn is_set(alloc: Global, field: &str, digits: &str) -> Result<bool, Fail> {
     let mut doc = start(alloc)?;
-    doc.set_by_name(alloc, field, Value::Bool(true))?;
+    let field = name(alloc, field)?;
+    doc.set_by_name(alloc, field.as_str(), Value::Bool(true))?;
     is_spelled(alloc, &doc, digits)
 }
 
