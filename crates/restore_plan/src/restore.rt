@@ -31,7 +31,7 @@ pub struct Restore {
 }
 
 impl Restore {
-    /// A restore of which nothing was taken yet. One that renames doesn't replay.
+    /// A restore of which nothing was taken yet. Entries act on the names that they have, also beside pairs that rename.
     pub fn new(alloc: Global, filter: Filter, replaying: bool, limit: Option<Ts>) -> Restore
         ensures plan { result.plan ≡ record { filter = filter; replaying = replaying; limit = limit } }
         ensures contents { contents_of result ≡ record { state = map.empty; entries = [] } }
