@@ -1,0 +1,9 @@
+pub mod Names
+pub mod Written
+pub mod Documents
+pub mod Deltas
+pub mod Definitions
+pub mod Finding
+pub mod KeptRows
+pub mod Commands
+pub mod RunGood

@@ -1,0 +1,4 @@
+pub mod Given
+pub mod Good
+pub mod Kept
+pub mod Laws
