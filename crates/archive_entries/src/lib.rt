@@ -1,0 +1,7 @@
+//! What a restore replays of an archive that a dump wrote. Laws alone: each function does nothing, and its caller
+//! learns the law.
+#![tactic(auto)]
+
+mod laws;
+
+pub use laws::entries_are_taken;

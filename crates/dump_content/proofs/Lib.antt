@@ -1,0 +1,4 @@
+pub mod Sorted
+pub mod Metas
+pub mod Sound
+pub mod Takings

@@ -1,0 +1,3 @@
+pub mod Pieces
+pub mod Following
+pub mod DumpRuns

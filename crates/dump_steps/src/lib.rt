@@ -1,0 +1,7 @@
+//! What the steps of a dump are, and that their pieces may follow one another in an archive. Laws alone: each function
+//! does nothing, and its caller learns the law.
+#![tactic(auto)]
+
+mod laws;
+
+pub use laws::steps_follow;
