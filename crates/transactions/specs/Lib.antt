@@ -1,0 +1,4 @@
+pub mod Transactions
+pub mod Steps
+pub mod Shown
+pub mod Scratch
