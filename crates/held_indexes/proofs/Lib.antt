@@ -1,0 +1,3 @@
+pub mod Risen
+pub mod Shared
+pub mod Collections

@@ -1,0 +1,10 @@
+pub mod Good
+pub mod Sound
+pub mod Bytes
+pub mod Made
+pub mod Rows
+pub mod InsertEffects
+pub mod DocumentEffects
+pub mod RingLaws
+pub mod Following
+pub mod TogetherEffects

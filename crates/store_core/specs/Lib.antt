@@ -1,0 +1,5 @@
+pub mod Stores
+pub mod Codes
+pub mod Applying
+pub mod Documents
+pub mod Together

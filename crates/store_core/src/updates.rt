@@ -1,0 +1,106 @@
+//! Updates of documents.
+ghost use Rattle.std.specs.Prelude.{◌≡◌, ◌<◌, IfOk, IfSome, Ok, Some, None};
+ghost use Rattle.bson_encode.specs.Key.{key_of};
+ghost use Rattle.history_model.specs.Refusals.{row_at};
+ghost use Rattle.history_model.specs.Commands.{effects};
+ghost use Rattle.store_core.specs.Applying.{Applies, Decided, Refuses, stage_in};
+ghost use Rattle.store_core.specs.Documents.{update_effects, IsKeptUnder, IsAccepted, Updates};
+
+use crate::collections::unless;
+use crate::entries::spelled_of;
+use crate::fault::StoreFault;
+use crate::replacements::unless_same;
+use crate::store::Store;
+use bson_value::{Doc, NsName, Value};
+use command_refusals::{update_refusal, updated};
+use schedule_model::{Command, DocumentCommand};
+use stored_documents::updates_keep_documents_good;
+use update_action::update_action;
+use update_ops::Updated;
+
+impl Store {
+    // Why an update of a document that isn't there isn't made.
+    fn missing(&self, ns: &NsName, id: &Value, ops: &Doc) -> StoreFault
+        requires { row_at ns.now (key_of id.now) self.now.rows ≡ None }
+        ensures { Refuses (Command.Document (DocumentCommand.Update ns.now id.now ops.now)) self.now result }
+    {
+        match update_refusal(self.alloc, &self.state, ns, id, ops, None) {
+            Ok(Some(row)) => StoreFault::Refused(row),
+            Ok(None) => unreachable!(),
+            Err(_) => StoreFault::NoMemory,
+        }
+    }
+
+    // An update that isn't refused: the document that stands, and what is made of it.
+    fn updated(&self, ns: &NsName, id: &Value, ops: &Doc) -> Result<(Doc, Updated), StoreFault>
+        ensures decided { IsAccepted (DocumentCommand.Update ns.now id.now ops.now) self.now (λ two. Updates ns.now id.now ops.now self.now.rows two.0 two.1) result }
+        ensures kept { IfOk result (λ two. IsKeptUnder id.now two.1.doc) }
+    {
+        updates_keep_documents_good();
+        let Some(old) = self.state.copy_of(self.alloc, ns, id)? else {
+            return Err(self.missing(ns, id, ops));
+        };
+        let after = updated(self.alloc, &old, ops)?;
+        unless(update_refusal(
+            self.alloc,
+            &self.state,
+            ns,
+            id,
+            ops,
+            after.as_ref(),
+        )?)?;
+        match after {
+            Some(after) => Ok((old, after)),
+            None => unreachable!(),
+        }
+    }
+
+    /// What an update that may be made gives; none where the document is as before.
+    pub(crate) fn update_of(
+        &self,
+        ns: &NsName,
+        id: &Value,
+        ops: &Doc,
+    ) -> Result<Option<Updated>, StoreFault>
+        ensures decided { Decided (Command.Document (DocumentCommand.Update ns.now id.now ops.now)) self.now (update_effects self.now.log.form ns.now id.now) result }
+        ensures kept { IfOk result (λ o. IfSome o (λ u. IsKeptUnder id.now u.doc)) }
+    {
+        let (old, after) = self.updated(ns, id, ops)?;
+        let Updated { doc, touches } = after;
+        match unless_same(&old, doc) {
+            Some(doc) => Ok(Some(Updated { doc, touches })),
+            None => Ok(None),
+        }
+    }
+
+    // Puts the document of an update.
+    fn put_updated(
+        &mut self,
+        ns: &NsName,
+        id: &Value,
+        ops: &Doc,
+        updated: Updated,
+    ) -> Result<u32, StoreFault>
+        requires few { self.old.log.recorded < 4000000000 }
+        requires accepted { effects (Command.Document (DocumentCommand.Update ns.now id.now ops.now)) (stage_in self.old) ≡ Ok (update_effects self.old.log.form ns.now id.now (Some updated)) }
+        requires kept { IsKeptUnder id.now updated.doc }
+        ensures { Applies (Command.Document (DocumentCommand.Update ns.now id.now ops.now)) self.old result self.new }
+    {
+        let form = self.log.form();
+        let Updated { doc, touches } = updated;
+        let action = update_action(self.alloc, id, &doc, touches.as_slice(), form)?;
+        let bytes = spelled_of(self.alloc, self.next_ts(), ns, action)?;
+        self.put(ns, doc, bytes)?;
+        Ok(1)
+    }
+
+    pub(crate) fn update(&mut self, ns: &NsName, id: &Value, ops: &Doc) -> Result<u32, StoreFault>
+        requires { self.old.log.recorded < 4000000000 }
+        ensures { Applies (Command.Document (DocumentCommand.Update ns.now id.now ops.now)) self.old result self.new }
+    {
+        match self.update_of(ns, id, ops)? {
+            Some(updated) => self.put_updated(ns, id, ops, updated),
+            None => Ok(0),
+        }
+    }
+}
