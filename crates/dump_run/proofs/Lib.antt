@@ -1,0 +1,12 @@
+pub mod Texts
+pub mod Windows
+pub mod Lines
+pub mod Places
+pub mod Reading
+pub mod Adding
+pub mod Marking
+pub mod Sending
+pub mod Metas
+pub mod Repeating
+pub mod Finishing
+pub mod Measures
