@@ -1,6 +1,7 @@
 pub mod Behind
 pub mod DecimalTexts
 pub mod Due
+pub mod Faultless
 pub mod Numbers
 pub mod Reading
 pub mod Stopped

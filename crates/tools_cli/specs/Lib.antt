@@ -4,6 +4,7 @@ pub mod Patterns
 pub mod Statuses
 pub mod Lines
 pub mod Answers
+pub mod SourceAnswers
 pub mod RestoreAnswers
 pub mod ShowAnswers
 pub mod UsageAnswers

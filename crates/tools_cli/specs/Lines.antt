@@ -12,6 +12,8 @@ use Rattle.bson_check.specs.declared.fault.BsonKind.{BsonKind}
 use Rattle.bson_check.specs.declared.fault.BsonKind.TheVariants as kinds
 use Rattle.archive_format.specs.declared.fault.FormatFault.{FormatFault}
 use Rattle.archive_format.specs.declared.fault.FormatFault.TheVariants as faults
+use Rattle.schedule_text.specs.declared.fault.LineKind.{LineKind}
+use Rattle.schedule_text.specs.declared.fault.LineKind.TheVariants as line_kinds
 use Rattle.state_listing.specs.Listing.{name_text}
 use Rattle.restore_plan.specs.declared.fault.RestoreFault.{RestoreFault}
 use Rattle.restore_plan.specs.declared.fault.RestoreFault.TheVariants as restores
@@ -58,6 +60,23 @@ format_text faults.TooLong = codes "too long"
 
 abbrev pub usage_line : ℕ → List ℕ
 usage_line at = line (numbered (codes "usage: word ") at)
+
+-- what is wrong with a line of a schedule
+abbrev pub line_kind_text : LineKind → List ℕ
+line_kind_text line_kinds.Utf8 = codes "Utf8"
+line_kind_text line_kinds.Command = codes "Command"
+line_kind_text line_kinds.Words = codes "Words"
+line_kind_text line_kinds.Number = codes "Number"
+line_kind_text line_kinds.Name = codes "Name"
+line_kind_text line_kinds.Json = codes "Json"
+line_kind_text line_kinds.Extended = codes "Extended"
+line_kind_text line_kinds.Shape = codes "Shape"
+line_kind_text line_kinds.Place = codes "Place"
+line_kind_text line_kinds.Limit = codes "Limit"
+
+-- the number of the first line that isn't one of a schedule, and what is wrong with it
+abbrev pub schedule_line : ℕ → LineKind → List ℕ
+schedule_line number kind = line (numbered (codes "bad schedule: line ") number ++ codes " " ++ line_kind_text kind)
 
 abbrev pub archive_line : List ℕ → List ℕ
 archive_line text = line (codes "bad archive: " ++ text)
@@ -114,6 +133,7 @@ restore_line restores.NoMemory = no_memory_line
 abbrev pub line_of : Status → List ℕ
 line_of is.Done = []
 line_of (is.Usage at) = usage_line at
+line_of (is.BadSchedule number kind) = schedule_line number kind
 line_of (is.BadArchive f) = archive_line (format_text f)
 line_of (is.NotRestored f) = restore_line f
 line_of is.ReadFault = codes "read fault\n"

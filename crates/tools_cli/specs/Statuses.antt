@@ -5,6 +5,7 @@ use Rattle.bson_value.specs.declared.value.Value.{Value}
 use Rattle.archive_format.specs.declared.fault.FormatFault.{FormatFault}
 use Rattle.restore_plan.specs.declared.fault.RestoreFault.{RestoreFault}
 use Rattle.restore_plan.specs.declared.fault.RestoreFault.TheVariants as faults
+use Rattle.schedule_text.specs.declared.fault.LineKind.{LineKind}
 use Rattle.tools_cli.specs.declared.status.Status.{Status}
 use Rattle.tools_cli.specs.declared.status.Status.TheVariants as is
 
@@ -22,6 +23,7 @@ restore_code faults.NoMemory = 11
 abbrev pub code_of : Status → ℕ
 code_of is.Done = 0
 code_of (is.Usage at) = 1
+code_of (is.BadSchedule line kind) = 2
 code_of (is.BadArchive f) = 3
 code_of (is.NotRestored f) = restore_code f
 code_of is.ReadFault = 9
@@ -36,6 +38,7 @@ IsFailure n s = (f : RestoreFault) × (s ≡ is.NotRestored f) × (restore_code 
 pub record Numbered (s : Status) : Type 0 where
   pub done : code_of s ≡ 0 → s ≡ is.Done
   pub usage : code_of s ≡ 1 → (at : ℕ) × (s ≡ is.Usage at)
+  pub bad_schedule : code_of s ≡ 2 → (line : ℕ) × (kind : LineKind) × (s ≡ is.BadSchedule line kind)
   pub bad_archive : code_of s ≡ 3 → ((f : FormatFault) × (s ≡ is.BadArchive f)) ⊎ IsFailure 3 s
   pub duplicate_key : code_of s ≡ 6 → (ns : NsName) × (i : List ℕ) × (a : Value) × (b : Value) × (s ≡ is.NotRestored (faults.Duplicate ns i a b))
   pub parallel_arrays : code_of s ≡ 7 → (ns : NsName) × (i : List ℕ) × (a : Value) × (s ≡ is.NotRestored (faults.Parallel ns i a))

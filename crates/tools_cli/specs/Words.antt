@@ -37,7 +37,7 @@ Meaning = Result Order ℕ
 
 -- the first word of each command
 abbrev pub commands : List (List ℕ × Verb)
-commands = (codes "restore", verbs.Restore) ∷ (codes "--help", verbs.Help) ∷ (codes "--version", verbs.Version) ∷ []
+commands = (codes "source", verbs.Source) ∷ (codes "restore", verbs.Restore) ∷ (codes "--help", verbs.Help) ∷ (codes "--version", verbs.Version) ∷ []
 
 -- an option's word is its name and directly behind it a value
 abbrev pub name_of : OptionName → List ℕ
@@ -55,6 +55,7 @@ row o k t = record { option = o; kind = k; times = t }
 
 -- the options that may stand behind a command, in any order
 abbrev pub options : Verb → List OptionRow
+options verbs.Source = row names.OplogLimit kinds.Moment times.Once ∷ row names.Form kinds.Form times.Once ∷ []
 options verbs.Restore =
     row names.Archive kinds.Nothing times.Once
     ∷ row names.OplogReplay kinds.Nothing times.Once
@@ -70,6 +71,7 @@ options verbs.Version = []
 
 -- and what must hold of those that stand
 abbrev pub rules : Verb → List Rule
+rules verbs.Source = []
 rules verbs.Restore =
     must.Needed names.Archive
     ∷ must.Needs names.OplogLimit names.OplogReplay
@@ -163,6 +165,7 @@ abbrev pub form_of : List Given → ListForm
 form_of given = if list_any (λ g. is_hex g.value) given then forms.Hex else forms.Json
 
 abbrev pub order_of : Verb → List Given → Order
+order_of verbs.Source given = orders.Source (record { limit = limit_of given; form = form_of given })
 order_of verbs.Restore given = orders.Restore (record { plan = plan_of given; form = form_of given })
 order_of verbs.Help given = orders.Help
 order_of verbs.Version given = orders.Version

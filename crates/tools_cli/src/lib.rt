@@ -5,6 +5,7 @@ mod filter;
 mod listing;
 mod order;
 mod report;
+mod source;
 mod status;
 mod table;
 mod texts;
@@ -12,7 +13,7 @@ mod top;
 mod value;
 mod words;
 
-pub use order::{Order, RestoreOrder};
+pub use order::{Order, RestoreOrder, SourceOrder};
 pub use status::{Status, numbers_tell_apart};
 pub use texts::{HELP, VERSION};
 pub use top::tools;

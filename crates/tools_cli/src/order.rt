@@ -1,12 +1,23 @@
+use bson_value::Ts;
 use document_lines::ListForm;
 use restore_plan::Plan;
 
 /// What a command is told to do.
 #[derive(Debug, Drop)]
 pub enum Order {
+    Source(SourceOrder),
     Restore(RestoreOrder),
     Help,
     Version,
+}
+
+/// What `source` is told.
+#[derive(Debug, Drop)]
+pub struct SourceOrder {
+    /// Only writes that are earlier are listed, where there is one.
+    pub limit: Option<Ts>,
+    /// How documents are listed: as JSON, where nothing else is said.
+    pub form: ListForm,
 }
 
 /// What `restore` is told.

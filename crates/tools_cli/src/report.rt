@@ -3,7 +3,7 @@ ghost use Rattle.std.specs.Prelude.{◌≡◌, ◌⊎◌, ℕ, List, IfOk, strin
 ghost use Rattle.tools_cli.specs.Ends.{turn, Tells};
 ghost use Rattle.tools_cli.specs.Answers.{Told, RunsOut};
 ghost use Rattle.json_text.specs.Print.{quoted as quoted_string};
-ghost use Rattle.tools_cli.specs.Lines.{kind_text, quoted_name, sum_text, format_text, usage_line, archive_line, no_id_text, metadata_text, ts_text, operation_text, unreadable_text, unknown_line, id_text, index_text, duplicate_line, parallel_line, restore_line, line_of};
+ghost use Rattle.tools_cli.specs.Lines.{kind_text, quoted_name, sum_text, format_text, usage_line, line_kind_text, schedule_line, archive_line, no_id_text, metadata_text, ts_text, operation_text, unreadable_text, unknown_line, id_text, index_text, duplicate_line, parallel_line, restore_line, line_of};
 
 use crate::status::Status;
 use archive_format::FormatFault;
@@ -14,6 +14,7 @@ use extjson::tree_of;
 use json_text::print;
 use json_tree::Tree;
 use restore_plan::RestoreFault;
+use schedule_text::LineKind;
 use std::alloc::{AllocError, Global};
 use tool_io::{Fault, Sink};
 
@@ -163,6 +164,31 @@ fn usage_line(alloc: Global, word: usize) -> Result<String, AllocError>
     format!(in alloc; "usage: word {word}\n")
 }
 
+// What is wrong with a line of a schedule.
+fn line_kind_text(kind: LineKind) -> &'static str
+    ensures { result.now ≡ line_kind_text kind }
+{
+    match kind {
+        LineKind::Utf8 => "Utf8",
+        LineKind::Command => "Command",
+        LineKind::Words => "Words",
+        LineKind::Number => "Number",
+        LineKind::Name => "Name",
+        LineKind::Json => "Json",
+        LineKind::Extended => "Extended",
+        LineKind::Shape => "Shape",
+        LineKind::Place => "Place",
+        LineKind::Limit => "Limit",
+    }
+}
+
+fn schedule_line(alloc: Global, line: u32, kind: LineKind) -> Result<String, AllocError>
+    ensures { IfOk result (λ s. string_bytes s ≡ schedule_line line kind) }
+{
+    let name = line_kind_text(kind);
+    format!(in alloc; "bad schedule: line {line} {name}\n")
+}
+
 // Tells a text that was made for this status, if there was memory for it.
 fn tell_text<R: Sink>(report: &mut R, text: Result<String, AllocError>, status: Status) -> Status
     requires { IfOk text (λ s. string_bytes s ≡ line_of status) }
@@ -267,6 +293,10 @@ pub fn tell<R: Sink>(alloc: Global, status: Status, report: &mut R) -> Status
         Status::Done => Status::Done,
         Status::Usage { word } => {
             tell_text(report, usage_line(alloc, word), Status::Usage { word })
+        }
+        Status::BadSchedule { line, kind } => {
+            let text = schedule_line(alloc, line, kind);
+            tell_text(report, text, Status::BadSchedule { line, kind })
         }
         Status::BadArchive(fault) => tell_format(alloc, fault, report),
         Status::NotRestored(fault) => tell_failure(alloc, fault, report),

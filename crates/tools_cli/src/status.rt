@@ -3,6 +3,7 @@ ghost use Rattle.tools_cli.specs.Statuses.{code_of, restore_code, NumbersTellApa
 
 use archive_format::FormatFault;
 use restore_plan::RestoreFault;
+use schedule_text::LineKind;
 
 /// How a call ended.
 #[derive(Drop)]
@@ -10,6 +11,8 @@ pub enum Status {
     Done,
     /// The words aren't a command; the place is that of the first word that can't stand where it stands.
     Usage { word: usize },
+    /// The input is no schedule; the line is the first that isn't one of a schedule, from 1.
+    BadSchedule { line: u32, kind: LineKind },
     /// The input is no archive.
     BadArchive(FormatFault),
     /// It is one that can't be restored.
@@ -42,6 +45,7 @@ impl Status {
         match self {
             Status::Done => 0,
             Status::Usage { .. } => 1,
+            Status::BadSchedule { .. } => 2,
             Status::BadArchive(_) => 3,
             Status::NotRestored(fault) => restore_code(fault),
             Status::ReadFault => 9,

@@ -8,6 +8,7 @@ use crate::value::Kind;
 /// What the first word names.
 #[derive(Clone, Copy, Debug, PartialEq, Eq)]
 pub enum Verb {
+    Source,
     Restore,
     Help,
     Version,
@@ -88,6 +89,7 @@ impl Verb {
         ensures { result ≡ row_of commands word.now }
     {
         match word {
+            "source" => Some(Verb::Source),
             "restore" => Some(Verb::Restore),
             "--help" => Some(Verb::Help),
             "--version" => Some(Verb::Version),
@@ -100,6 +102,18 @@ impl Verb {
         ensures { result.now ≡ options self }
     {
         match self {
+            Verb::Source => &[
+                OptionRow {
+                    option: OptionName::OplogLimit,
+                    kind: Kind::Moment,
+                    times: Times::Once,
+                },
+                OptionRow {
+                    option: OptionName::Form,
+                    kind: Kind::Form,
+                    times: Times::Once,
+                },
+            ],
             Verb::Restore => &[
                 OptionRow {
                     option: OptionName::Archive,
@@ -159,7 +173,7 @@ impl Verb {
                 Rule::Equal(OptionName::NsFrom, OptionName::NsTo),
                 Rule::SameStars(OptionName::NsFrom, OptionName::NsTo),
             ],
-            Verb::Help | Verb::Version => &[],
+            Verb::Source | Verb::Help | Verb::Version => &[],
         }
     }
 }

@@ -1,9 +1,18 @@
 //! What `--help` and `--version` show.
 
 pub const HELP: &str = "\
-usage: suzhimanu restore --archive [OPTION..] < ARCHIVE
+usage: suzhimanu source [OPTION..] < SCHEDULE
+       suzhimanu restore --archive [OPTION..] < ARCHIVE
        suzhimanu --help
        suzhimanu --version
+
+source  reads a schedule from standard input, runs its commands, tells each line that is refused, and lists what they
+        made
+
+  --oplogLimit=S[:I]
+                  the run stops before the first write at this second and ordinal, 0 where none is given, or later
+  --form=hex, --form=json
+                  as those of restore
 
 restore  reads an archive from standard input and lists what it restores
 

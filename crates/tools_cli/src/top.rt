@@ -8,6 +8,7 @@ ghost use Rattle.tools_cli.specs.Answers.{Says, Answers};
 use crate::listing::list_archive;
 use crate::order::Order;
 use crate::report::tell;
+use crate::source::list_source;
 use crate::status::Status;
 use crate::texts::{HELP, VERSION};
 use crate::words;
@@ -40,6 +41,7 @@ fn perform<S: Source, K: Sink, R: Sink>(
         (turn (R.end report.old) (R.end report.new)) }
 {
     match order {
+        Order::Source(order) => list_source(alloc, order, input, output, report),
         Order::Restore(order) => list_archive(alloc, order, input, output),
         Order::Help => show(HELP, output),
         Order::Version => show(VERSION, output),

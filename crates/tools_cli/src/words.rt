@@ -5,7 +5,7 @@ ghost use Rattle.tools_cli.specs.Values.{is_hex};
 ghost use Rattle.tools_cli.specs.Words.{behind, given_in, first_row, may_stand, option_at, times_given, holds, hold, form_of, limit_of, order_of, step, meaning_behind, meaning_of, same_option, options, rules, texts_of, Means};
 
 use crate::filter::{filter_of, have_same_stars};
-use crate::order::{Order, RestoreOrder};
+use crate::order::{Order, RestoreOrder, SourceOrder};
 use crate::table::{OptionName, OptionRow, Rule, Times, Verb};
 use crate::value::{Value, value_of};
 use bson_value::Ts;
@@ -172,6 +172,10 @@ fn order_of(alloc: Global, verb: Verb, given: Vec<Given>) -> Result<Order, Alloc
     ensures { IfOk result (λ o. o ≡ order_of verb given.items) }
 {
     match verb {
+        Verb::Source => Ok(Order::Source(SourceOrder {
+            limit: limit_of(&given),
+            form: form_of(&given),
+        })),
         Verb::Restore => {
             let form = form_of(&given);
             let limit = limit_of(&given);

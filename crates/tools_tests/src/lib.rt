@@ -7,3 +7,5 @@ mod failing_ends;
 mod refusals;
 #[cfg(test)]
 mod restore;
+#[cfg(test)]
+mod source;

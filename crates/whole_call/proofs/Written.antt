@@ -1,0 +1,41 @@
+-- A call with status 0 on the archive of a dump writes the listing of the source.
+use Rattle.std.proofs.Common.{ℕ, ◌≡◌, List, inl, inr, sym, ◌∙◌, subst}
+use Rattle.std.specs.Prelude.{⊤, Option, Some}
+use Rattle.state_listing.specs.Listing.{listing}
+use Rattle.restore_plan.specs.Outcome.{restores, IsOutcome, OnInput}
+use Rattle.history_model.specs.Runs.{Schedule}
+use Rattle.dump_model.specs.Archives.{written}
+use Rattle.restored_source.specs.Laws.{ReplaysDump, source_taken, ListsSource}
+use Rattle.tools_cli.specs.declared.order.RestoreOrder.{RestoreOrder}
+use Rattle.tools_cli.specs.declared.status.Status.{Status}
+use Rattle.tools_cli.specs.declared.status.Status.TheVariants as is
+use Rattle.tools_cli.specs.Words.{Meaning}
+use Rattle.tools_cli.specs.Ends.{Turn, Writes, turn}
+use Rattle.tools_cli.specs.RestoreAnswers.{RestoreSays, RestoreAnswers}
+use Rattle.tools_cli.specs.Answers.{Says, Told, Answers}
+use Rattle.tools_cli.proofs.Numbers.{numbered}
+use Rattle.whole_call.specs.Headline.{ListsDump}
+
+done_writes : ListsSource → (order : RestoreOrder) (i o : Turn) → RestoreSays order is.Done i o → (s : Schedule) → ReplaysDump s order.plan → i.before.bytes ≡ Some (written s) → Writes o (listing order.form (source_taken s order.plan))
+done_writes law order i o h s d e =
+    let made = h.1.1.0 in
+    let Q : Option (List ℕ) → Type 0 = λ known. OnInput known (λ b. IsOutcome order.plan b (restores made)) in
+    let has : IsOutcome order.plan (written s) (restores made) = subst Q e h.1.1.1 in
+    subst (λ (t : List ℕ). Writes o t) (h.1.1.2 ∙ law s order.plan d made has order.form) h.1.2
+
+abbrev IsDone : Status → Type 0
+IsDone is.Done = ⊤
+IsDone _ = ⊥
+
+-- a status that was told as done was done
+told_done : (status final : Status) (report : Turn) → Told status final report → final ≡ is.Done → status ≡ is.Done
+told_done status final report (inl h) e = sym h.0 ∙ e
+told_done status final report (inr h) e = absurd (subst IsDone (sym e ∙ h.0) tt)
+
+pub call_writes : ListsSource → (m : Meaning) (code : ℕ) (i o r : Turn) → Answers m code i o r → ListsDump m code i o
+call_writes law m code i o r a order means s d e zero =
+    let done : a.status ≡ is.Done = told_done a.status a.final (turn a.ran r.after) a.told ((numbered a.final).done (sym a.number ∙ zero)) in
+    let P : Meaning → Type 0 = λ m. Says m a.status i o (turn r.before a.ran) in
+    let answers : RestoreAnswers order a.status i o (turn r.before a.ran) = subst P means a.says in
+    let R : Status → Type 0 = λ status. RestoreSays order status i o in
+    done_writes law order i o (subst R done answers.says) s d e

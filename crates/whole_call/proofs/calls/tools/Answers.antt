@@ -1,0 +1,11 @@
+use Rattle.tools_cli.specs.Words.{meaning_of, texts_of}
+use Rattle.tools_cli.specs.Ends.{turn}
+use Rattle.whole_call.proofs.Written.{call_writes}
+use Rattle.whole_call.proofs.calls.tools.Goals as goal
+
+pub returns-clause-lists : goal.returns-clause-lists
+returns-clause-lists g c =
+    let input = turn (g.S.Source.end c.args.input.now) (g.S.Source.end c.tools.new.input) in
+    let output = turn (g.K.Sink.end c.args.output.now) (g.K.Sink.end c.tools.new.output) in
+    let report = turn (g.R.Sink.end c.args.report.now) (g.R.Sink.end c.tools.new.report) in
+    call_writes c.lists_source.ensures (meaning_of (texts_of c.args.words.now)) c.tools.result input output report c.tools.ensures

@@ -1,0 +1,31 @@
+//! The call that the program makes.
+ghost use Rattle.tools_cli.specs.Words.{meaning_of, texts_of};
+ghost use Rattle.tools_cli.specs.Ends.{turn};
+ghost use Rattle.tools_cli.specs.Answers.{Answers};
+ghost use Rattle.whole_call.specs.Headline.{ListsDump};
+
+use restored_source::lists_source;
+use std::alloc::Global;
+use tool_io::{Sink, Source};
+use tools_cli::tools as answer;
+
+/// All that the program does: reads the input, writes the output, tells a line on the report where the status isn't 0, and
+/// answers the status. Where it restores the archive of a dump with status 0, the output is the listing of the source.
+pub fn tools<S: Source, K: Sink, R: Sink>(
+    alloc: Global,
+    words: &[String],
+    input: &mut S,
+    output: &mut K,
+    report: &mut R,
+) -> u8
+    ensures answers { Answers (meaning_of (texts_of words.now)) result
+        (turn (S.end input.old) (S.end input.new))
+        (turn (K.end output.old) (K.end output.new))
+        (turn (R.end report.old) (R.end report.new)) }
+    ensures lists { ListsDump (meaning_of (texts_of words.now)) result
+        (turn (S.end input.old) (S.end input.new))
+        (turn (K.end output.old) (K.end output.new)) }
+{
+    lists_source();
+    answer(alloc, words, input, output, report)
+}
