@@ -69,8 +69,8 @@ named_again c h =
     ap under_names (normal_again (map.entries c.indexes) a)
     ∙ (names_put map.empty (map.entries c.indexes) a
     ∙ key_map_same _ _ (λ q. get_put key_cmp key_refl key_is key_at_insert map.empty (map.entries c.indexes) q (map.entries_sorted c.indexes)
-      ∙ (ap (or_in key_cmp key_refl key_is (map.find key_cmp q (map.entries c.indexes))) (map.get-empty {X = Tree} key_cmp q)
-      ∙ (or_none (map.find key_cmp q (map.entries c.indexes)) ∙ sym (map.get-entries c.indexes q)))))
+    ∙ (ap (or_in key_cmp key_refl key_is (map.find key_cmp q (map.entries c.indexes))) (map.get-empty {X = Tree} key_cmp q)
+    ∙ (or_none (map.find key_cmp q (map.entries c.indexes)) ∙ sym (map.get-entries c.indexes q)))))
 
 -- ---- collections
 

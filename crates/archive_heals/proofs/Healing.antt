@@ -27,6 +27,6 @@ heals again base_is entries_are replayed alike s d h p r ts c =
     let w = window_before p.limit h.start h.last (run s) in
     let y = copy_of h.rows (reads_in (reads s) []) in
     let made : restored p ts ≡ cut f (replay_all w y) =
-      (λ i. replay_all (entries_are s d h p r.replaying ts c i) (base_is s d (again s d) h p r.plain ts c i)) ∙ replayed f w y in
+    (λ i. replay_all (entries_are s d h p r.replaying ts c i) (base_is s d (again s d) h p r.plain ts c i)) ∙ replayed f w y in
     let same : SameStates (restored p ts) (cut f (at s p.limit)) = subst (λ (x : State). SameStates x (cut f (at s p.limit))) (sym made) (same_cut f (replay_all w y) (at s p.limit) (h.healed p.limit r.late)) in
     record { same = same; listed = (alike (restored p ts) (cut f (at s p.limit))).0 same }

@@ -60,9 +60,11 @@ apart_more before m (e ∷ es) a h = (any_last e.0 m before a.0 h.0, apart_more 
 metas_are : (before : List NsName) (es : Entries) → T (is_sorted namespace_cmp es) → AllOf (λ n c. IsGoodName n) es → Apart before es → AreMetaTexts (each metadata_of es) → AreMetas before (each metadata_of es)
 metas_are before [] s g a t = tt
 metas_are before (e ∷ es) s g a t =
-    let named = good_named e.0 g.0 in
-    (record { texts = named.texts; text = t.0; fits = t.1; named = named.named; other = not_oplog e.0 named (good_apart e.0 g.0) }, a.0,
-    metas_are (before ++ e.0 ∷ []) es (tail_sorted namespace_cmp ns_refl ns_is e es s) g.1 (apart_more before e.0 es a.1 (head_apart namespace_cmp ns_refl ns_is e es s)) t.2)
+    let named = good_named e.0 g.0 in (
+      record { texts = named.texts; text = t.0; fits = t.1; named = named.named; other = not_oplog e.0 named (good_apart e.0 g.0) },
+      a.0,
+      metas_are (before ++ e.0 ∷ []) es (tail_sorted namespace_cmp ns_refl ns_is e es s) g.1 (apart_more before e.0 es a.1 (head_apart namespace_cmp ns_refl ns_is e es s)) t.2,
+    )
 
 none_before : (es : Entries) → Apart [] es
 none_before [] = tt

@@ -157,8 +157,11 @@ marked_dump c d r h there (r0, st) = by (is_some d.mark || not (all_ended d.curs
     on e None =
         elim (is_gone d.start r.stage.oplog) as (λ b. AfterDump (Ok (elim b [ true ↦ rolled d.start r | false ↦ record r { dump = Some (record d { mark = Some r.stage.newest }) } ]))) [
           | true ↦ same (rolled d.start r).outcome
-          | false ↦ (r0, changed r0 d (record d { mark = Some r.stage.newest }) r (record r { dump = Some (record d { mark = Some r.stage.newest }) }) st refl refl refl
-              (record { there = st.follow.there; read = st.follow.read; stand = st.follow.stand; ended = st.follow.ended; of = st.follow.of; closed_is = st.follow.closed_is; all = λ m. all_have_ended d.cursors e }))
+          | false ↦ (
+            r0,
+            changed r0 d (record d { mark = Some r.stage.newest }) r (record r { dump = Some (record d { mark = Some r.stage.newest }) }) st refl refl refl
+                (record { there = st.follow.there; read = st.follow.read; stand = st.follow.stand; ended = st.follow.ended; of = st.follow.of; closed_is = st.follow.closed_is; all = λ m. all_have_ended d.cursors e }),
+          )
         ]
 
     by : (b : Bool) → (is_some d.mark || not (all_ended d.cursors)) ≡ b → AfterDump (elim b [ true ↦ Err NotNow | false ↦ Ok (marked_by (renamed_since d.start r.stage.renamed) d r) ])
@@ -176,8 +179,11 @@ tailed_dump c n d r h there (r0, st) = by d.mark
     on all false e =
         elim (is_gone d.start r.stage.oplog) as (λ b. AfterDump (Ok (elim b [ true ↦ rolled d.start r | false ↦ sent_on n all d r ]))) [
           | true ↦ same
-          | false ↦ (r0, changed r0 d _ r (sent_on n all d r) st refl refl refl
-              (entries_more r0 d.cursors (is_some d.mark) r.steps (take n (drop d.sent all)) (nat_le (length all) (d.sent + n)) st.kept (subst (λ (x : Bool). Following r0 d.cursors x (is_some d.mark) r.steps) e st.follow)))
+          | false ↦ (
+            r0,
+            changed r0 d _ r (sent_on n all d r) st refl refl refl
+                (entries_more r0 d.cursors (is_some d.mark) r.steps (take n (drop d.sent all)) (nat_le (length all) (d.sent + n)) st.kept (subst (λ (x : Bool). Following r0 d.cursors x (is_some d.mark) r.steps) e st.follow)),
+          )
         ]
 
     by : (o : Option Ts) → AfterDump (tailed_to n o d r)
@@ -197,16 +203,19 @@ in_dump_after g r h step = by r.dump refl h
     by (Some d) e s = on d e s r.outcome
 
 begun_dump : (c : Caps) (r : Run) → Full c r → r.steps ≡ [] → InDump (started r).dump (started r)
-begun_dump c r h e = (r.stage.rows, record {
-  kept = h.kept.rows;
-  follow = subst (λ (ss : List Step). Following r.stage.rows (map.from_entries (cursors_of (map.entries r.stage.rows.tables))) false false ss) (sym e) (begins r.stage.rows);
-  first = r.made;
-  more = [];
-  made = sym (append_none r.made);
-  at_start = h.ok.0.state;
-  rises = h.ok.0.rises;
-  later = refl;
-})
+begun_dump c r h e = (
+  r.stage.rows,
+  record {
+    kept = h.kept.rows;
+    follow = subst (λ (ss : List Step). Following r.stage.rows (map.from_entries (cursors_of (map.entries r.stage.rows.tables))) false false ss) (sym e) (begins r.stage.rows);
+    first = r.made;
+    more = [];
+    made = sym (append_none r.made);
+    at_start = h.ok.0.state;
+    rises = h.ok.0.rises;
+    later = refl;
+  },
+)
 
 started_dump : (c : Caps) (r : Run) → Full c r → AfterDump (dumped r.dump r)
 started_dump c r h = by r.dump h.dump
@@ -243,16 +252,19 @@ command_dump k r x e h = by r.dump h
   where
     by : (o : Option DumpState) → InDump o r → InDump o (record r { stage = x.0; made = r.made ++ x.1 })
     by None g = g
-    by (Some d) (r0, st) = (r0, record {
-      kept = st.kept;
-      follow = st.follow;
-      first = st.first;
-      more = st.more ++ x.1;
-      made = ap (λ (z : List Made). z ++ x.1) st.made ∙ append_assoc st.first st.more x.1;
-      at_start = st.at_start;
-      rises = st.rises;
-      later = rises_join st.more x.1 d.start r.stage.newest x.0.newest st.later (taken_rises k r.stage x e);
-    })
+    by (Some d) (r0, st) = (
+      r0,
+      record {
+        kept = st.kept;
+        follow = st.follow;
+        first = st.first;
+        more = st.more ++ x.1;
+        made = ap (λ (z : List Made). z ++ x.1) st.made ∙ append_assoc st.first st.more x.1;
+        at_start = st.at_start;
+        rises = st.rises;
+        later = rises_join st.more x.1 d.start r.stage.newest x.0.newest st.later (taken_rises k r.stage x e);
+      },
+    )
 
 refused_dump : (r : Run) (refused : List (ℕ × Refusal)) → InDump r.dump r → InDump r.dump (record r { refused = refused })
 refused_dump r refused h = by r.dump h

@@ -65,6 +65,7 @@ module _ {X : Type 0} where
   each_two R [] s h = tt
   each_two R (e ∷ es) s h =
       (let b = first (below_all key_cmp e.0 es) (map.is_sorted key_cmp es) s in
-      let r = second (below_all key_cmp e.0 es) (map.is_sorted key_cmp es) s in
-      (each_found (λ k v. R e.1 v) es r (λ k v f. h e.0 k e.1 v (found_head e es) (found_rest e es k v b f) (other_key e es k v b f)),
-      each_two R es r (λ k q v w f g d. h k q v w (found_rest e es k v b f) (found_rest e es q w b g) d)))
+      let r = second (below_all key_cmp e.0 es) (map.is_sorted key_cmp es) s in (
+        each_found (λ k v. R e.1 v) es r (λ k v f. h e.0 k e.1 v (found_head e es) (found_rest e es k v b f) (other_key e es k v b f)),
+        each_two R es r (λ k q v w f g d. h k q v w (found_rest e es k v b f) (found_rest e es q w b g) d),
+      ))

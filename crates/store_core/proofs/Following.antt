@@ -129,11 +129,13 @@ made_length (d ∷ ds) st = ap suc (made_length ds (stage_by d st))
 roomy_of : (s : Stored) (st : Stage) → StandsAt s st → IsKept s.log.newest s.log.ring s.log.recorded → Roomy st
 roomy_of s st h k =
     (let cap = ap (λ (r : Ring). r.cap) h.ring in
-    let room : 0 < st.caps.entries = subst (λ (n : ℕ). 0 < n) cap k.room in
-    (room, record {
-      few = subst (λ (r : Ring). length r.entries ≤ r.cap) h.ring k.held;
-      short = subst (λ (r : Ring). is_over r.limit r.entries ≡ false) h.ring k.within;
-    }))
+    let room : 0 < st.caps.entries = subst (λ (n : ℕ). 0 < n) cap k.room in (
+      room,
+      record {
+        few = subst (λ (r : Ring). length r.entries ≤ r.cap) h.ring k.held;
+        short = subst (λ (r : Ring). is_over r.limit r.entries ≡ false) h.ring k.within;
+      },
+    ))
 
 pub applied_at : KeepsLongest → OplogIsRing → (c : Command) (old new : Stored) (result : Result ℕ StoreFault) → IsKept old.log.newest old.log.ring old.log.recorded → Applies c old result new → (st : Stage) → StandsAt old st → AppliedAt c st result new
 applied_at law ring c old new (Ok n) k a st h =

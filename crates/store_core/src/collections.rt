@@ -46,13 +46,7 @@ impl Store {
         ensures { Decided (Command.Create ns.now options.now) self.now (λ tree. only (writes.Create ns.now tree) (entries.Create ns.now options.now)) result }
     {
         let tree = options_of(self.alloc, options)?;
-        unless(create_refusal(
-            self.alloc,
-            &self.state,
-            ns,
-            options,
-            &tree,
-        )?)?;
+        unless(create_refusal(self.alloc, &self.state, ns, options, &tree)?)?;
         Ok(tree)
     }
 

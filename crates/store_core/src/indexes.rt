@@ -38,13 +38,7 @@ impl Store {
         ensures { Decided (Command.CreateIndex ns.now def.now) self.now (λ form. only (writes.AddIndex ns.now form) (entries.AddIndex ns.now form)) result }
     {
         let form = normal_of(self.alloc, def)?;
-        unless(index_refusal(
-            self.alloc,
-            &self.state,
-            ns,
-            def,
-            form.as_ref(),
-        )?)?;
+        unless(index_refusal(self.alloc, &self.state, ns, def, form.as_ref())?)?;
         match form {
             Some(form) => Ok(form),
             None => unreachable!(),

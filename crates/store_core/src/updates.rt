@@ -41,14 +41,7 @@ impl Store {
             return Err(self.missing(ns, id, ops));
         };
         let after = updated(self.alloc, &old, ops)?;
-        unless(update_refusal(
-            self.alloc,
-            &self.state,
-            ns,
-            id,
-            ops,
-            after.as_ref(),
-        )?)?;
+        unless(update_refusal(self.alloc, &self.state, ns, id, ops, after.as_ref())?)?;
         match after {
             Some(after) => Ok((old, after)),
             None => unreachable!(),

@@ -113,7 +113,12 @@ impl Store {
         Ok(())
     }
 
-    pub(crate) fn put_index(&mut self, ns: &NsName, def: Tree, bytes: Bytes) -> Result<(), AllocError>
+    pub(crate) fn put_index(
+        &mut self,
+        ns: &NsName,
+        def: Tree,
+        bytes: Bytes,
+    ) -> Result<(), AllocError>
         requires few { self.old.log.recorded < 4000000000 }
         requires holds { IndexesHold (add_index ns.now def self.old.rows) }
         ensures ok { OnOk result (self.new ≡ record { rows = add_index ns.now def self.old.rows; log = logged bytes self.old.log }) }
