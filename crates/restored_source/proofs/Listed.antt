@@ -13,7 +13,8 @@ use Rattle.history_model.specs.Histories.{Moments, at}
 use Rattle.history_model.specs.Laws.{DoneIsHealedBefore}
 use Rattle.dump_steps.proofs.DumpRuns.{lines_formed}
 use Rattle.archive_heals.specs.Laws.{Replays, ArchiveHeals}
-use Rattle.restored_source.specs.Laws.{SameAreListedAlike, ListsSource, ListsWholeSource}
+use Rattle.whole_transactions.specs.Laws.{AtIsWhole}
+use Rattle.restored_source.specs.Laws.{SameAreListedAlike, ListsSource, ListsWholeSource, ListsWholeTransactions}
 use Rattle.restored_source.proofs.Lines.{listed_alike}
 
 pub same_listed : SameCounts → SameIsShownAlike → SameAreListedAlike
@@ -32,3 +33,7 @@ source_listed heals healed alike s p r made o form =
 pub whole_listed : ListsSource → CutStands → SameAreListedAlike → ListsWholeSource
 whole_listed lists stand alike s p r all made o form =
     lists s p r made o form ∙ alike form (cut (takes p.filter) (at s p.limit)) (at s p.limit) (λ (q : Spot). stand (takes p.filter) (at s p.limit) q ∙ ap (λ b. if b then stands (at s p.limit) q else None) (all (space_of q)))
+
+pub transactions_listed : ListsSource → AtIsWhole → ListsWholeTransactions
+transactions_listed lists wholes s p r made o earlier ts ws later h form =
+    (at s p.limit, wholes s (lines_formed s.lines r.dumped.given) earlier ts ws later h p.limit, lists s p r made o form)

@@ -1,5 +1,5 @@
 -- What is listed of the archive of a dump that is restored.
-use Rattle.std.specs.Prelude.{◌≡◌, true, Some}
+use Rattle.std.specs.Prelude.{◌≡◌, List, true, Some}
 use Rattle.bson_value.specs.declared.namespace.NsName.{NsName}
 use Rattle.bson_value.specs.declared.value.Ts.{Ts}
 use Rattle.state_model.specs.States.{State}
@@ -10,11 +10,14 @@ use Rattle.state_listing.specs.Listing.{listing}
 use Rattle.restore_filter.specs.Names.{takes}
 use Rattle.restore_plan.specs.declared.plan.Plan.{Plan}
 use Rattle.restore_plan.specs.Outcome.{restores, IsOutcome}
+use Rattle.copy_model.specs.Writes.{SingleWrite}
+use Rattle.history_model.specs.Stages.{Write, Txn}
 use Rattle.history_model.specs.Runs.{Schedule}
 use Rattle.history_model.specs.Histories.{moments, at}
 use Rattle.dump_model.specs.Archives.{written}
 use Rattle.dump_content.specs.Laws.{Dumped}
 use Rattle.archive_heals.specs.Laws.{Replays}
+use Rattle.whole_transactions.specs.Laws.{IsWhole, IsCommitted}
 
 abbrev pub SameAreListedAlike : Type 0
 SameAreListedAlike = (form : ListForm) (a b : State) → SameStates a b → listing form a ≡ listing form b
@@ -37,3 +40,9 @@ ListsSource = (s : Schedule) (p : Plan) → ReplaysDump s p → (made : State) �
 -- of all of it, where the filter takes each name
 abbrev pub ListsWholeSource : Type 0
 ListsWholeSource = (s : Schedule) (p : Plan) → ReplaysDump s p → ((n : NsName) → takes p.filter n ≡ true) → (made : State) → IsOutcome p (written s) (restores made) → (form : ListForm) → listing form made ≡ listing form (at s p.limit)
+
+-- what is restored is listed as a state that has all writes of a committed transaction or none, cut to what the filter takes
+abbrev pub ListsWholeTransactions : Type 0
+ListsWholeTransactions = (s : Schedule) (p : Plan) → ReplaysDump s p → (made : State) → IsOutcome p (written s) (restores made) →
+    (earlier : List (Ts × Write)) (ts : Ts) (ws : List SingleWrite) (later : List (Ts × Write)) → IsCommitted s earlier ts ws later →
+    (form : ListForm) → (x : State) × IsWhole earlier (ts, Txn ws) later x × (listing form made ≡ listing form (cut (takes p.filter) x))

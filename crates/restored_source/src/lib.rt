@@ -4,4 +4,4 @@
 
 mod laws;
 
-pub use laws::{lists_source, lists_whole_source, same_are_listed_alike};
+pub use laws::{lists_source, lists_whole_source, lists_whole_transactions, same_are_listed_alike};
