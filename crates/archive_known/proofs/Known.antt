@@ -19,7 +19,7 @@ use Rattle.restore_plan.specs.declared.plan.Plan.{Plan}
 use Rattle.restore_plan.specs.Base.{entries, entries_in, kept_in, oplog_reading, document_taken}
 use Rattle.restore_plan.specs.Faults.{of_replay}
 use Rattle.history_model.specs.Entries.{OplogEntry, entry_at, entry_bytes}
-use Rattle.history_model.specs.Runs.{Step, Documents, Entries, run}
+use Rattle.history_model.specs.Runs.{Step, Documents, Entries, entries_from, window, run}
 use Rattle.history_model.specs.Histories.{reads, sent_in, Moments}
 use Rattle.history_model.specs.Laws.{HistoryIsRecorded, WindowHasNoRename, DoneIsHealedBefore}
 use Rattle.dump_model.specs.Archives.{oplog, document_texts, metas_of, all_pieces}
@@ -111,7 +111,7 @@ entries_known takings healed recorded free played s d p ts c =
     let h = healed s formed d.done in
     let fine = window_fine (run s) h.start h.last (recorded_good s d.given) d.times in
     let plain = window_plain h.start h.last (run s) (recorded s formed) (free s h.start h.last formed (ap (λ (m : Moments). m.start) h.moments_are) (ap (λ (m : Moments). m.end_ts) h.moments_are)) in
-    let sent = subst (EachEntry IsPlainAndFine) (sym h.sent) (both_entries _ fine plain) in
+    let sent = subst (EachEntry IsPlainAndFine) (sym h.sent) (both_entries (window h.start h.last (entries_from (run s))) fine plain) in
     let all = subst (OfKnown played p) (sym (takings s d ts c))
     (of_join played p (each meta_taking (metas_of (start_state s))) (all_takings (all_pieces (reads s))) (of_metas played p (metas_of (start_state s))) (of_steps played p f.rows (reads s) f.kept f.steps sent)) in
     ap (option_map of_replay) (all_known played p ts all)

@@ -17,12 +17,15 @@ use Rattle.schedule_model.specs.declared.command.DocumentCommand.TheVariants.{In
 use Rattle.schedule_model.specs.declared.command.Command.{Command}
 use Rattle.schedule_model.specs.declared.command.Command.TheVariants.{At, Recording, Create, DropColl, DropDatabase, Rename, Document, CreateIndex, DropIndex, Txn}
 use Rattle.schedule_model.specs.declared.refused.Refused.{Refused}
+use Rattle.copy_model.specs.Writes.{SingleWrite, change_rows}
 use Rattle.copy_model.specs.Writes as writes
 use Rattle.bson_encode.specs.Key.{key_of}
 use Rattle.history_model.specs.Documents.{id_first, normal_of}
+use Rattle.history_model.specs.Entries.{update_item}
+use Rattle.history_model.specs.Entries as entries
 use Rattle.history_model.specs.Stages.{Write, Stage, Effect, Made, Single, rows_by, stage_by, stage_after, made_in}
 use Rattle.history_model.specs.Refusals.{is_there, row_at, update_of, first_of}
-use Rattle.history_model.specs.Commands.{RecordedWrite, unless_same, update_changes, replace_changes, insert_changes, under_id, document_changes, changes_together, group_of, is_too_large, or_too_large, grouped, one_each, unless_refused, index_effects, command_rows, command_effects, effects, set_by, answered, applied}
+use Rattle.history_model.specs.Commands.{RecordedWrite, put_change, unless_same, update_changes, replace_changes, insert_changes, under_id, document_changes, changes_together, group_of, is_too_large, or_too_large, grouped, one_each, unless_refused, index_effects, command_rows, command_effects, effects, set_by, answered, applied}
 use Rattle.history_model.specs.Indexes.{IndexesOf, IndexesHold}
 use Rattle.history_model.proofs.Accepted.{same_ok}
 use Rattle.history_model.proofs.Inductive.{told_same}
@@ -35,8 +38,12 @@ HoldThrough (m ∷ ms) r = IndexesHold r × HoldThrough ms (rows_by m.write r)
 
 -- ---- each but the last makes a collection, which has no index yet
 
+abbrev IsCreate : SingleWrite → Type 0
+IsCreate (writes.Create n o) = ⊤
+IsCreate _ = ⊥
+
 abbrev Makes : Write → Type 0
-Makes (Single (writes.Create n o)) = ⊤
+Makes (Single w) = IsCreate w
 Makes _ = ⊥
 
 abbrev AllButLastMake : List Effect → Type 0
@@ -57,8 +64,12 @@ created_holds n o r h m t e = by (same_ns m n) (sym (ns_at_insert r.tables n (fr
     by true f = subst IndexesOf (same_table (fresh_table r.count o) t f) (λ i d g. no_tree d (sym (map.get-empty {X = Tree} key_cmp i) ∙ g))
     by false f = h m t f
 
+create_holds : (w : SingleWrite) (r : Rows) → IsCreate w → IndexesHold r → IndexesHold (change_rows w r)
+create_holds (writes.Create n o) r k h = created_holds n o r h
+create_holds _ r k h = absurd k
+
 makes_holds : (w : Write) (r : Rows) → Makes w → IndexesHold r → IndexesHold (rows_by w r)
-makes_holds (Single (writes.Create n o)) r k h = created_holds n o r h
+makes_holds (Single w) r k h = create_holds w r k h
 makes_holds _ r k h = absurd k
 
 effects_through : (ds : List Effect) (st : Stage) → AllButLastMake ds → IndexesHold st.rows → IndexesHold (stage_after ds st).rows → HoldThrough (made_in ds st) st.rows
@@ -80,12 +91,12 @@ insert_makes false n id d = (tt, tt)
 
 replace_makes : (n : NsName) (id : Value) (d : Fields) (o : Option Row) → AllButLastMake (one_each (replace_changes n id d o))
 replace_makes n id d None = tt
-replace_makes n id d (Some row) = unless_put row.document d _
+replace_makes n id d (Some row) = unless_put row.document d (put_change n id d (entries.Whole n id d))
 
 update_makes : (f : Form) (n : NsName) (id : Value) (o : Option Row) (u : Option Updated) → AllButLastMake (one_each (update_changes f n id o u))
 update_makes f n id None u = tt
 update_makes f n id (Some row) None = tt
-update_makes f n id (Some row) (Some u) = unless_put row.document u.doc _
+update_makes f n id (Some row) (Some u) = unless_put row.document u.doc (put_change n id u.doc (update_item f n id u.doc u.touches))
 
 document_makes : (f : Form) (c : DocumentCommand) (r : Rows) → AllButLastMake (one_each (document_changes f c r))
 document_makes f (Insert n d) r = by (id_of d)
@@ -155,7 +166,7 @@ applied_through k st x e h g = by (effects k st) refl e
     by : (y : Result (List Effect) Refused) → effects k st ≡ y → answered (set_by k st) y ≡ Ok x → HoldThrough x.1 st.rows
     by (Err z) f u = cc
     by (Ok ds) f u =
-        (let now : (stage_after ds (set_by k st), made_in ds (set_by k st)) ≡ x = same_ok (stage_after ds (set_by k st), made_in ds (set_by k st)) x u in
+        (let now = same_ok (stage_after ds (set_by k st), made_in ds (set_by k st)) x u in
         let on = told_same k st in
         subst (λ (z : Stage × List Made). HoldThrough z.1 st.rows) now
         (subst (λ (z : Rows). HoldThrough (made_in ds (set_by k st)) z) on
