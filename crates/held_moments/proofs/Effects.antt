@@ -1,12 +1,12 @@
 -- Indexes hold behind each write of a command.
-use Rattle.std.proofs.Common.{◌≡◌, List, [], ◌∷◌, Bool, true, false, cond, refl, sym, ap, ◌∙◌, subst, Option, Some, None, Result, Ok, Err}
-use Rattle.std.specs.Prelude.{⊤, is_some}
+use Rattle.std.proofs.Common.{◌≡◌, List, [], ◌∷◌, Bool, true, false, cond, refl, sym, ◌∙◌, subst, Option, Some, None, Result, Ok, Err}
+use Rattle.std.specs.Prelude.{⊤}
 use Rattle.std.specs.FinMap as map
 use Rattle.bson_value.specs.declared.namespace.NsName.{NsName}
 use Rattle.bson_value.specs.declared.value.Value.{Value, Object}
 use Rattle.json_tree.specs.declared.tree.Tree.{Tree}
 use Rattle.doc_path.specs.declared.parts.Form.{Form}
-use Rattle.state_model.specs.Keys.{Key, key_cmp, same_ns}
+use Rattle.state_model.specs.Keys.{key_cmp, same_ns}
 use Rattle.state_model.proofs.Maps.{ns_at_insert}
 use Rattle.coll_state.specs.Rows.{Document as Fields, Row, Table, Rows, id_of}
 use Rattle.coll_state.specs.Changes.{fresh_table, create}

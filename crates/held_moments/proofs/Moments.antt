@@ -12,7 +12,7 @@ use Rattle.schedule_model.specs.declared.refused.Refused.{Refused}
 use Rattle.index_build.specs.Faults.{fault}
 use Rattle.history_model.specs.Stages.{Write, earlier, Stage, Made, Effect, rows_by, stage_by, stage_after, made_in, first_ts}
 use Rattle.history_model.specs.Commands.{effects, set_by, answered, applied}
-use Rattle.history_model.specs.Runs.{Schedule, Run, Refusal, NotTaken, commanded, or_refused, after_line, after_lines, first_run, run}
+use Rattle.history_model.specs.Runs.{Run, NotTaken, commanded, or_refused, after_line, after_lines, first_run, run}
 use Rattle.history_model.specs.Histories.{history_of, is_before, is_up_to, moments, state, at}
 use Rattle.history_model.specs.Recordings.{rows_of_made, made_of_answer, made_by}
 use Rattle.history_model.specs.Invariants.{RisesTo}
