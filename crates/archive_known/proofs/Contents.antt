@@ -1,5 +1,5 @@
 -- What a dump writes is an archive.
-use Rattle.std.proofs.Common.{◌≡◌, List, [], ◌++◌, sym, subst}
+use Rattle.std.proofs.Common.{[], ◌++◌, sym, subst}
 use Rattle.std.specs.Prelude.{map as each}
 use Rattle.archive_format.specs.Written.{prelude_text}
 use Rattle.archive_content.specs.Laws.{WrittenIsContent}
@@ -24,8 +24,7 @@ has_content content healed s d within =
     let ms = metas_of (start_state s) in
     let metas : AreMetas [] ms = subst (λ (x : State). AreMetas [] (metas_of x)) f.at_start (are_metas f.rows f.kept (subst (λ (x : State). AreMetaTexts (metas_of x)) (sym f.at_start) d.texts)) in
     let fine = subst (EachEntry IsFine) (sym h.sent) (window_fine (run s) h.start h.last (recorded_good s d.given) d.times) in
-    let bytes = (bytes_join (prelude_text header ms) (pieces_text [] ps) d.bytes).1 in
-    (
+    let bytes = (bytes_join (prelude_text header ms) (pieces_text [] ps) d.bytes).1 in (
       each meta_taking ms ++ all_takings ps,
       content header ms ps is_header metas (may_follow [] ps f.stand (steps_sound f.rows (reads s) f.steps fine) (byte_pieces [] ps bytes)) f.ended within,
     )

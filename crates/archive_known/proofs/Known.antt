@@ -1,18 +1,15 @@
 -- A restore knows each entry of a dump's archive.
-use Rattle.std.proofs.Common.{◌≡◌, ℕ, List, [], ◌∷◌, ◌++◌, Bool, true, false, refl, sym, ap, ◌∙◌, subst, Option, Some, None}
-use Rattle.std.specs.Prelude.{⊤, map as each, Ok, option_map, if◌then◌else◌}
+use Rattle.std.proofs.Common.{◌≡◌, ℕ, List, [], ◌∷◌, ◌++◌, Bool, true, false, refl, sym, ap, subst, Option, Some, None}
+use Rattle.std.specs.Prelude.{⊤, map as each, option_map, if◌then◌else◌}
 use Rattle.std.specs.Result.{result_unwrap_or}
 use Rattle.std.specs.FinMap as map
 use Rattle.bson_value.specs.declared.namespace.NsName.{NsName}
-use Rattle.bson_value.specs.declared.value.Ts.{Ts}
 use Rattle.archive_format.specs.Shapes.{Metadata, is_oplog}
 use Rattle.archive_format.specs.Archive.{Taking, doc}
 use Rattle.archive_content.specs.Pieces.{meta_taking, all_takings}
-use Rattle.entry_model.specs.declared.entry.Entry.{Entry}
 use Rattle.entry_model.specs.Spelling.{entry_fields}
 use Rattle.entry_model.proofs.Entries.{reads_back}
 use Rattle.coll_state.specs.Rows.{Document, Table, Rows}
-use Rattle.replay.specs.declared.fault.ReplayFault.{ReplayFault}
 use Rattle.restore_entries.specs.declared.reading.EntryReading.TheVariants.{Passed}
 use Rattle.restore_entries.specs.Oplog.{reading_of}
 use Rattle.restore_plan.specs.declared.plan.Plan.{Plan}

@@ -1,6 +1,6 @@
 -- What a restore keeps of an entry that it knows, it knows.
 use Rattle.std.proofs.Common.{◌≡◌, List, [], ◌∷◌, ◌++◌, Bool, true, false, map, refl, sym, ap, ◌∙◌, subst, Option, Some, None}
-use Rattle.std.specs.Prelude.{filter, Result, Ok, Err, if◌then◌else◌}
+use Rattle.std.specs.Prelude.{filter, Ok, Err, if◌then◌else◌}
 use Rattle.bson_value.specs.declared.value.Ts.{Ts}
 use Rattle.entry_model.specs.declared.entry.Entry.{Entry}
 use Rattle.entry_model.specs.declared.entry.Action.{Action, out-Action}
@@ -13,10 +13,9 @@ use Rattle.replay.specs.Moves.{is_config}
 use Rattle.replay.specs.Refusals.{first, first_refused}
 use Rattle.replay.proofs.Folds.{Level, refused_below, refused_is}
 use Rattle.restore_filter.specs.Rules.{Rules}
-use Rattle.restore_entries.specs.declared.reading.EntryReading.{EntryReading}
-use Rattle.restore_entries.specs.declared.reading.EntryReading.TheVariants.{Passed, Kept, Unreadable}
+use Rattle.restore_entries.specs.declared.reading.EntryReading.TheVariants.{Passed, Kept}
 use Rattle.restore_entries.specs.Cut.{takes_entry, cut_action, cut_entry}
-use Rattle.restore_entries.specs.Oplog.{Head, is_asked, at_entry, at_head, from_head, reading_of}
+use Rattle.restore_entries.specs.Oplog.{Head, is_asked, at_head, from_head, reading_of}
 use Rattle.restore_plan.specs.Base.{kept_in}
 
 -- none of these is refused

@@ -1,6 +1,6 @@
 -- No entry of the window is a rename.
 use Rattle.std.proofs.Common.{◌≡◌, List, [], ◌∷◌, Bool, true, false, refl}
-use Rattle.std.specs.Prelude.{◌&&◌, map as each, filter, if◌then◌else◌}
+use Rattle.std.specs.Prelude.{◌&&◌, map as each, if◌then◌else◌}
 use Rattle.bson_value.specs.declared.value.Ts.{Ts}
 use Rattle.coll_state.specs.Rows.{Rows}
 use Rattle.coll_state.specs.Changes.{no_rows}
