@@ -14,7 +14,7 @@ use Rattle.tools_cli.specs.Ends.{Turn, Writes, turn}
 use Rattle.tools_cli.specs.RestoreAnswers.{RestoreSays, RestoreAnswers}
 use Rattle.tools_cli.specs.Answers.{Says, Told, Answers}
 use Rattle.tools_cli.proofs.Numbers.{numbered}
-use Rattle.whole_call.specs.Headline.{RestoresDump, ListsDump}
+use Rattle.whole_call.specs.Headline.{ListsDump}
 
 done_writes : ListsSource → (order : RestoreOrder) (i o : Turn) → RestoreSays order is.Done i o → (s : Schedule) → ReplaysDump s order.plan → i.before.bytes ≡ Some (written s) → Writes o (listing order.form (source_taken s order.plan))
 done_writes law order i o h s d e =
