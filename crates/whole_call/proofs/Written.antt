@@ -33,9 +33,9 @@ told_done status final report (inl h) e = sym h.0 ∙ e
 told_done status final report (inr h) e = absurd (subst IsDone (sym e ∙ h.0) tt)
 
 pub call_writes : ListsSource → (m : Meaning) (code : ℕ) (i o r : Turn) → Answers m code i o r → ListsDump m code i o
-call_writes law m code i o r a order means s d e zero =
+call_writes law m code i o r a order s d zero =
     let done : a.status ≡ is.Done = told_done a.status a.final (turn a.ran r.after) a.told ((numbered a.final).done (sym a.number ∙ zero)) in
     let P : Meaning → Type 0 = λ m. Says m a.status i o (turn r.before a.ran) in
-    let answers : RestoreAnswers order a.status i o (turn r.before a.ran) = subst P means a.says in
+    let answers : RestoreAnswers order a.status i o (turn r.before a.ran) = subst P d.means a.says in
     let R : Status → Type 0 = λ status. RestoreSays order status i o in
-    done_writes law order i o (subst R done answers.says) s d e
+    done_writes law order i o (subst R done answers.says) s d.replays d.given

@@ -1,0 +1,4 @@
+pub mod Contents
+pub mod Readings
+pub mod Windows
+pub mod Known
