@@ -1,5 +1,5 @@
 -- A call with status 0 on the archive of a dump writes the listing of the source.
-use Rattle.std.proofs.Common.{ℕ, ◌≡◌, List, inl, inr, sym, ◌∙◌, subst}
+use Rattle.std.proofs.Common.{ℕ, ◌≡◌, List, [], inl, inr, sym, ◌∙◌, subst}
 use Rattle.std.specs.Prelude.{⊤, Option, Some}
 use Rattle.state_listing.specs.Listing.{listing}
 use Rattle.restore_plan.specs.Outcome.{restores, IsOutcome, OnInput}
@@ -14,14 +14,23 @@ use Rattle.tools_cli.specs.Ends.{Turn, Writes, turn}
 use Rattle.tools_cli.specs.RestoreAnswers.{RestoreSays, RestoreAnswers}
 use Rattle.tools_cli.specs.Answers.{Says, Told, Answers}
 use Rattle.tools_cli.proofs.Numbers.{numbered}
-use Rattle.whole_call.specs.Headline.{ListsDump}
+use Rattle.schedule_text.specs.declared.schedule.Schedule.{Schedule as Text}
+use Rattle.schedule_report.specs.Schedules.{schedule_in}
+use Rattle.schedule_bounds.specs.Laws.{ReadIsDumped}
+use Rattle.whole_call.specs.Headline.{RestoresDump, ListsDump}
 
-done_writes : ListsSource → (order : RestoreOrder) (i o : Turn) → RestoreSays order is.Done i o → (s : Schedule) → ReplaysDump s order.plan → i.before.bytes ≡ Some (written s) → Writes o (listing order.form (source_taken s order.plan))
+-- a schedule that was read and whose dump is done is one that was dumped
+pub replays_dump : ReadIsDumped → (text : List ℕ) (s : Text) (m : Meaning) (order : RestoreOrder) (input : Turn) → RestoresDump text s m order input → ReplaysDump (schedule_in s) order.plan
+replays_dump law text s m order input d = record { dumped = law text s d.read d.done; last_read = d.last_read; read = d.copied; replays = d.replays }
+
+done_writes : ListsSource → (order : RestoreOrder) (i o : Turn) → RestoreSays order is.Done i o → (s : Schedule) → ReplaysDump s order.plan → i.before.bytes ≡ Some (written s) →
+    Writes o (listing order.form (source_taken s order.plan)) × (i.after.bytes ≡ Some [])
 done_writes law order i o h s d e =
     let made = h.1.1.0 in
     let Q : Option (List ℕ) → Type 0 = λ known. OnInput known (λ b. IsOutcome order.plan b (restores made)) in
     let has : IsOutcome order.plan (written s) (restores made) = subst Q e h.1.1.1 in
-    subst (λ (t : List ℕ). Writes o t) (h.1.1.2 ∙ law s order.plan d made has order.form) h.1.2
+    let E : Option (List ℕ) → Type 0 = λ known. OnInput known (λ b. i.after.bytes ≡ Some []) in
+    (subst (λ (t : List ℕ). Writes o t) (h.1.1.2 ∙ law s order.plan d made has order.form) h.1.2, subst E e h.0)
 
 abbrev IsDone : Status → Type 0
 IsDone is.Done = ⊤
@@ -32,10 +41,10 @@ told_done : (status final : Status) (report : Turn) → Told status final report
 told_done status final report (inl h) e = sym h.0 ∙ e
 told_done status final report (inr h) e = absurd (subst IsDone (sym e ∙ h.0) tt)
 
-pub call_writes : ListsSource → (m : Meaning) (code : ℕ) (i o r : Turn) → Answers m code i o r → ListsDump m code i o
-call_writes law m code i o r a order s d zero =
+pub call_writes : ListsSource → ReadIsDumped → (m : Meaning) (code : ℕ) (i o r : Turn) → Answers m code i o r → ListsDump m code i o
+call_writes law dumped m code i o r a text s order d zero =
     let done : a.status ≡ is.Done = told_done a.status a.final (turn a.ran r.after) a.told ((numbered a.final).done (sym a.number ∙ zero)) in
     let P : Meaning → Type 0 = λ m. Says m a.status i o (turn r.before a.ran) in
     let answers : RestoreAnswers order a.status i o (turn r.before a.ran) = subst P d.means a.says in
     let R : Status → Type 0 = λ status. RestoreSays order status i o in
-    done_writes law order i o (subst R done answers.says) s d.replays d.given
+    done_writes law order i o (subst R done answers.says) (schedule_in s) (replays_dump dumped text s m order i d) d.given

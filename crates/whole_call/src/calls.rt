@@ -6,6 +6,7 @@ ghost use Rattle.whole_call.specs.Headline.{ListsDump, CompletesDump};
 
 use restored_dump::archive_restores;
 use restored_source::lists_source;
+use schedule_bounds::read_is_dumped;
 use std::alloc::Global;
 use tool_io::{Sink, Source};
 use tools_cli::tools as answer;
@@ -33,5 +34,6 @@ pub fn tools<S: Source, K: Sink, R: Sink>(
 {
     lists_source();
     archive_restores();
+    read_is_dumped();
     answer(alloc, words, input, output, report)
 }
