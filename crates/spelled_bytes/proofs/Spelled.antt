@@ -1,11 +1,12 @@
 -- The spelling of a well-formed value is of bytes.
 use Rattle.std.proofs.Common.{◌≡◌, ℕ, ◌+◌, ◌%◌, ◌^◌, ◌<◌, Bool as Truth, true, false, List, [], ◌∷◌, ◌++◌, length, map, sym, subst, arith}
-use Rattle.std.specs.Prelude.{flat_map, if◌then◌else◌}
+use Rattle.std.specs.Prelude.{ℤ, flat_map, if◌then◌else◌}
 use Rattle.std.specs.Int.{Width, w32, w64, byte_len, to_le_bytes, cast_unsigned}
 use Rattle.std.specs.Fmt.{decimal}
 use Rattle.std.specs.List.{AllByRecursion}
 use Rattle.std.specs.Str.{is_utf8}
 use Rattle.bson_value.specs.declared.value.Value.{Value, Value-F, roll-Value, out-roll-Value, map-Value, fold-roll-Value, ind-Value}
+use Rattle.bson_value.specs.declared.value.Value.TheVariants.{Long, rolls-Long}
 use Rattle.bson_value.specs.Spelling as spellings
 use Rattle.bson_value.specs.Spelling.{count_bytes, Typed, element, framed, numbered, spelling_step, spelling, typed_fields, document_text}
 use Rattle.bson_value.specs.WellFormed.{IsName, IsRun, IsWellFormedLevel, IsWellFormed}
@@ -15,7 +16,7 @@ use Rattle.spelled_bytes.proofs.Runs.{Bytes, by_index, by_recursion, join, zero_
 use Rattle.spelled_bytes.proofs.Texts.{text_bytes, digits_bytes}
 
 -- the byte of a type, and bytes
-abbrev IsTyped : Typed → Type 0
+abbrev pub IsTyped : Typed → Type 0
 IsTyped p = (p.0 < 256) × Bytes p.1
 
 word : (w : Width) (n : ℕ) → Bytes (to_le_bytes w n)
@@ -98,9 +99,24 @@ spelled v = ind-Value IsSpelled step v
 
 -- ---- documents
 
-elements : (fs : List (List ℕ × Value)) → AllByRecursion (λ e. IsName e.0) fs → AllByRecursion (λ e. IsWellFormed e.1) fs → Bytes (flat_map element (typed_fields fs))
-elements [] n h = tt
-elements (f ∷ fs) n h = join (element (f.0, spelling f.1)) (flat_map element (typed_fields fs)) (one_element f.0 (spelling f.1) (text_bytes f.0 n.0.utf8) (spelled f.1 h.0)) (elements fs n.1 h.1)
+-- a name and a value of bytes
+abbrev pub IsSpelledField : List ℕ × Value → Type 0
+IsSpelledField f = Bytes f.0 × IsTyped (spelling f.1)
+
+elements : (fs : List (List ℕ × Value)) → AllByRecursion IsSpelledField fs → Bytes (flat_map element (typed_fields fs))
+elements [] h = tt
+elements (f ∷ fs) h = join (element (f.0, spelling f.1)) (flat_map element (typed_fields fs)) (one_element f.0 (spelling f.1) h.0.0 h.0.1) (elements fs h.1)
+
+pub document_bytes : (fs : List (List ℕ × Value)) → AllByRecursion IsSpelledField fs → Bytes (document_text fs)
+document_bytes fs h = frame _ (elements fs h)
+
+formed_fields : (fs : List (List ℕ × Value)) → AllByRecursion (λ e. IsName e.0) fs → AllByRecursion (λ e. IsWellFormed e.1) fs → AllByRecursion IsSpelledField fs
+formed_fields [] n h = tt
+formed_fields (f ∷ fs) n h = ((text_bytes f.0 n.0.utf8, spelled f.1 h.0), formed_fields fs n.1 h.1)
 
 pub documents_bytes : DocumentsAreBytes
-documents_bytes d h = by_index (document_text d) (frame _ (elements d h.0.1 h.1))
+documents_bytes d h = by_index (document_text d) (document_bytes d (formed_fields d h.0.1 h.1))
+
+-- an integer of 64 bits, whichever number it is of
+pub long_typed : (z : ℤ) → IsTyped (spelling (Long z))
+long_typed z = subst (λ (v : Value). IsTyped (spelling v)) (rolls-Long z) (subst IsTyped (sym (fold-roll-Value Typed spelling_step (Value-F.Long z))) (omega arith, word w64 (cast_unsigned w64 z)))
