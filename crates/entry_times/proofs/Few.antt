@@ -1,6 +1,5 @@
 -- A command makes two entries at most.
-use Rattle.std.proofs.Common.{◌≡◌, ℕ, ◌≤◌, List, [], ◌∷◌, length, Bool, true, false, subst, arith, Option, Some, None, Result, Ok, Err}
-use Rattle.std.specs.Prelude.{map as each}
+use Rattle.std.proofs.Common.{◌≡◌, ◌≤◌, List, [], ◌∷◌, length, Bool, true, false, subst, arith, Option, Some, None, Result, Ok, Err}
 use Rattle.bson_value.specs.declared.namespace.NsName.{NsName}
 use Rattle.bson_value.specs.declared.value.Value.{Value, Object}
 use Rattle.bson_encode.specs.Key.{key_of}
@@ -21,8 +20,11 @@ use Rattle.history_model.specs.Stages.{Stage, Effect}
 use Rattle.history_model.specs.Refusals.{is_there, row_at, update_of, first_of}
 use Rattle.history_model.specs.Commands.{RecordedWrite, put_change, unless_same, update_changes, replace_changes, insert_changes, under_id, document_changes, changes_together, group_of, is_too_large, or_too_large, grouped, one_each, unless_refused, index_effects, command_rows, command_effects, effects}
 
+abbrev AreFew : List RecordedWrite → Type 0
+AreFew cs = length cs ≤ 2
+
 unless_few : (old new : Fields) (cs : List RecordedWrite) → length cs ≤ 2 → length (unless_same old new cs) ≤ 2
-unless_few old new cs h = elim (same (Object old) (Object new)) as (λ b. length (elim b [ true ↦ [] | false ↦ cs ]) ≤ 2) [ true ↦ omega arith | false ↦ h ]
+unless_few old new cs h = elim (same (Object old) (Object new)) as (λ b. AreFew (elim b [ true ↦ [] | false ↦ cs ])) [ true ↦ omega arith | false ↦ h ]
 
 insert_few : (b : Bool) (n : NsName) (id : Value) (d : Fields) → length (insert_changes b n id d) ≤ 2
 insert_few true n id d = omega arith
@@ -67,7 +69,10 @@ command_few (commands.CreateIndex n d) st = index_few n (normal_of d)
 command_few (commands.DropIndex n i) st = omega arith
 command_few (commands.Txn ds) st = omega arith
 
-same_list : (ds es : List Effect) → Ok {E = Refused} ds ≡ Ok es → length ds ≤ 2 → length es ≤ 2
+abbrev Answer : Type 0
+Answer = Result (List Effect) Refused
+
+same_list : (ds es : List Effect) → ◌≡◌ {A = Answer} (Ok ds) (Ok es) → length ds ≤ 2 → length es ≤ 2
 same_list ds es e h = let q : ds ≡ es = cc in subst (λ (l : List Effect). length l ≤ 2) q h
 
 told : (x : Option Refused) (ds es : List Effect) → unless_refused x ds ≡ Ok es → length ds ≤ 2 → length es ≤ 2

@@ -10,9 +10,9 @@ use Rattle.schedule_model.specs.declared.line.Line.{Line}
 use Rattle.schedule_model.specs.declared.line.Line.TheVariants.{Cmd, Dump, Copy, Mark, Tail}
 use Rattle.schedule_model.specs.declared.refused.Refused.{Refused}
 use Rattle.entry_documents.specs.Laws.{FitsStamp}
-use Rattle.history_model.specs.Stages.{Stage, Made, Effect, next_ts, made_of, stage_by, stage_after, made_in}
+use Rattle.history_model.specs.Stages.{Stage, Made, Effect, next_ts, stage_by, stage_after, made_in}
 use Rattle.history_model.specs.Commands.{effects, set_by, answered, applied}
-use Rattle.history_model.specs.Runs.{Schedule, Run, Refusal, DumpState, begun, commanded, on_line, or_refused, after_line, after_lines, first_run, repeated, last_step, names_in, rows_left, copied_out, marked_out, run}
+use Rattle.history_model.specs.Runs.{Schedule, Run, Refusal, DumpState, begun, commanded, on_line, or_refused, after_line, after_lines, first_run, repeated, last_step, names_in, rows_left, copied_out, marked_out}
 use Rattle.history_model.specs.Recordings.{EachMade}
 use Rattle.history_model.proofs.Inductive.{each_join}
 use Rattle.history_model.proofs.Accepted.{same_ok}

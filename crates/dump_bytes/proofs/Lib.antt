@@ -1,0 +1,3 @@
+pub mod Metadata
+pub mod Entries
+pub mod Written
