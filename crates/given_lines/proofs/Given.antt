@@ -1,7 +1,6 @@
 -- Documents in lines are as Extended JSON is read.
 use Rattle.std.proofs.Common.{◌≡◌, ℕ, List, [], ◌∷◌, ◌++◌, sym, ap, ◌∙◌, subst, Option, Some, None, inl, inr}
 use Rattle.std.specs.Prelude.{⊤, map as each, codes}
-use Rattle.containers.specs.Entries.{lookup, without}
 use Rattle.bson_value.specs.declared.value.Value.{Value, Value-F, Object, out-Value, roll-Value, roll-out-Value, every-Value}
 use Rattle.bson_value.specs.declared.value.Value.TheVariants as values
 use Rattle.bson_value.specs.WellFormed.{IsWellFormedLevel, IsWellFormed, IsWellFormedDocument}
@@ -10,7 +9,6 @@ use Rattle.extjson.specs.RoundTrip.{IsPlain}
 use Rattle.coll_state.specs.Rows.{Document as Fields}
 use Rattle.update_records.proofs.Changed.{field_formed, without_fields, without_names, without_distinct}
 use Rattle.plain_values.specs.Laws.{JsonIsFormed, ReadIsFormed, ReadIsPlain}
-use Rattle.doc_path.specs.declared.parts.Form.TheVariants as forms
 use Rattle.schedule_model.specs.declared.command.DocumentCommand.{DocumentCommand}
 use Rattle.schedule_model.specs.declared.command.DocumentCommand.TheVariants as documents
 use Rattle.schedule_model.specs.declared.command.Command.{Command}
@@ -19,7 +17,7 @@ use Rattle.schedule_model.specs.declared.line.Line.{Line}
 use Rattle.schedule_model.specs.declared.line.Line.TheVariants as lines
 use Rattle.schedule_text.specs.declared.schedule.NumberedLine.{NumberedLine}
 use Rattle.schedule_text.specs.declared.schedule.Schedule.{Schedule}
-use Rattle.schedule_text.specs.Grammar.{IsDocument, IsIdentified, OfDocument, OfIdentified, IsDocumentCommand, IsCommand, IsStep, AreSteps, ends, passed, outer, single, dumping, opens, inner, commits, aborts, IsRead, uncapped, skipped, capped, IsSchedule}
+use Rattle.schedule_text.specs.Grammar.{IsDocument, IsIdentified, IsDocumentCommand, IsCommand, IsStep, AreSteps, ends, passed, outer, single, dumping, opens, inner, commits, aborts, IsRead, uncapped, skipped, capped}
 use Rattle.schedule_report.specs.Schedules.{numbered}
 use Rattle.recorded_entries.specs.Given.{IsPlainDocument, IsGivenChange, AreGivenChanges, IsGivenCommand, IsGivenLine, AreGivenLines}
 use Rattle.given_lines.specs.Laws.{ReadIsGiven}

@@ -1,5 +1,5 @@
 -- Seconds in lines are of 32 bits, and there are as many lines as in the text at most.
-use Rattle.std.proofs.Common.{◌≡◌, ℕ, ◌+◌, ◌≤◌, ◌<◌, ◌^◌, List, [], ◌∷◌, length, arith, Option}
+use Rattle.std.proofs.Common.{◌≡◌, ℕ, ◌+◌, ◌≤◌, List, [], ◌∷◌, length, arith, Option}
 use Rattle.std.specs.Prelude.{map as each}
 use Rattle.schedule_model.specs.declared.command.DocumentCommand.{DocumentCommand}
 use Rattle.schedule_model.specs.declared.command.Command.{Command}
