@@ -1,6 +1,5 @@
 -- The documents of entries are well-formed.
-use Rattle.std.proofs.Common.{◌≡◌, List, map, sym, ap, subst}
-use Rattle.bson_value.specs.declared.value.Value.{Array}
+use Rattle.std.proofs.Common.{map, sym, ap, subst}
 use Rattle.bson_value.specs.declared.value.Ts.{Ts}
 use Rattle.bson_value.specs.WellFormed.{IsWellFormedDocument}
 use Rattle.std.specs.Prelude.{[], codes}
@@ -8,8 +7,8 @@ use Rattle.entry_model.specs.declared.entry.Entry.{Entry}
 use Rattle.entry_model.specs.declared.entry.Action.{Action}
 use Rattle.entry_model.specs.declared.entry.Action.TheOpen.{Action-F}
 use Rattle.entry_model.specs.declared.entry.Action.TheVariants as actions
-use Rattle.entry_model.specs.Spelling.{Body, command_body, body_at, item_value, body_of, entry_fields}
-use Rattle.entry_documents.specs.Laws.{fields_at, FitsStamp, IsBody}
+use Rattle.entry_model.specs.Spelling.{Body, body_at, item_value, body_of, entry_fields}
+use Rattle.entry_documents.specs.Laws.{fields_at, FitsStamp}
 use Rattle.entry_documents.proofs.Documents.{entries_are}
 use Rattle.history_model.specs.Entries.{Content, Nothing, One, Rename, Group, database, item_entry, entry_at}
 use Rattle.recorded_entries.specs.Good.{IsGood}

@@ -1,8 +1,7 @@
 -- All that a dump writes is of bytes.
-use Rattle.std.proofs.Common.{◌≡◌, ℕ, ◌<◌, List, [], ◌∷◌, ◌++◌, Bool, true, false, refl, sym, subst, arith, map as each}
-use Rattle.std.specs.Prelude.{⊤, ℤ, pos, codes, flat_map}
+use Rattle.std.proofs.Common.{◌≡◌, ℕ, List, [], ◌∷◌, ◌++◌, Bool, true, false, refl, sym, subst, arith, map as each}
+use Rattle.std.specs.Prelude.{ℤ, pos, codes}
 use Rattle.std.specs.Int.{w64, cast_signed}
-use Rattle.std.specs.List.{AllByRecursion}
 use Rattle.std.specs.Str.{is_utf8}
 use Rattle.bson_value.specs.declared.namespace.NsName.{NsName}
 use Rattle.bson_value.specs.declared.value.Value.{Value, Str, Int, Long, Bool as Truth}
@@ -16,15 +15,14 @@ use Rattle.spelled_bytes.proofs.Spelled.{IsTyped, IsSpelledField, spelled, docum
 use Rattle.coll_state.specs.Rows.{Row, Rows}
 use Rattle.archive_format.specs.Archive.{magic_bytes, stop_bytes}
 use Rattle.archive_format.specs.Crc.{crc_end}
-use Rattle.archive_format.specs.Shapes.{Header, Metadata, concurrent_name, version_name, server_name, tool_name, db_name, collection_name, metadata_name, eof_name, crc_name, format_version}
+use Rattle.archive_format.specs.Shapes.{Metadata, concurrent_name, version_name, server_name, tool_name, db_name, collection_name, metadata_name, eof_name, crc_name, format_version}
 use Rattle.archive_format.specs.Written.{size_name, type_name, header_fields, meta_fields, head_fields, header_text, meta_text, head_text, metas_text, prelude_text, joined, AreTexts}
-use Rattle.archive_content.specs.Pieces.{Piece, Block, End, AreBytes, AllBytes, AreMetas, sum_of, piece_text, pieces_text}
-use Rattle.entry_documents.specs.Laws.{FitsStamp}
+use Rattle.archive_content.specs.Pieces.{Piece, Block, End, AreBytes, AllBytes, AreMetas, sum_of, pieces_text}
 use Rattle.entry_documents.proofs.Documents.{a_text}
 use Rattle.state_model.specs.States.{State}
 use Rattle.entry_model.specs.Spelling.{entry_fields}
 use Rattle.history_model.specs.Entries.{OplogEntry, entry_at, entry_bytes}
-use Rattle.history_model.specs.Runs.{Schedule, Step, Documents, Entries, run}
+use Rattle.history_model.specs.Runs.{Step, Documents, Entries, run}
 use Rattle.history_model.specs.Histories.{reads, sent_in}
 use Rattle.history_model.specs.Laws.{DoneIsHealedBefore}
 use Rattle.dump_model.specs.Archives.{header, oplog, block_of, end_of, document_texts, pieces_of, all_pieces, metas_of}
@@ -58,32 +56,46 @@ string t u = spelled (Str t) (formed_str t u)
 head_bytes : (n : NsName) (b : Bool) (z : ℤ) → AreTexts n → AreBytes (head_text n b z)
 unfolding head_text
 head_bytes n b z t =
-    bytes_are _ (document_bytes (head_fields n b z) (
+    bytes_are (document_text (head_fields n b z)) (document_bytes (head_fields n b z) (
       word db_name (a_text db_name refl) (Str n.db) (string n.db t.0),
-      (word collection_name (a_text collection_name refl) (Str n.coll) (string n.coll t.1),
-      (word eof_name (a_text eof_name refl) (Truth b) (spelled (Truth b) (formed_bool b)),
-      (word crc_name (a_text crc_name refl) (Long z) (long_typed z), tt))),
+      (
+        word collection_name (a_text collection_name refl) (Str n.coll) (string n.coll t.1),
+        (
+          word eof_name (a_text eof_name refl) (Truth b) (spelled (Truth b) (formed_bool b)),
+          (word crc_name (a_text crc_name refl) (Long z) (long_typed z), tt),
+        ),
+      ),
     ))
 
 meta_bytes : (m : Metadata) → AreTexts m.ns → is_utf8 m.text ≡ true → AreBytes (meta_text m)
 unfolding meta_text
 meta_bytes m t u =
-    bytes_are _ (document_bytes (meta_fields m) (
+    bytes_are (document_text (meta_fields m)) (document_bytes (meta_fields m) (
       word db_name (a_text db_name refl) (Str m.ns.db) (string m.ns.db t.0),
-      (word collection_name (a_text collection_name refl) (Str m.ns.coll) (string m.ns.coll t.1),
-      (word metadata_name (a_text metadata_name refl) (Str m.text) (string m.text u),
-      (word size_name (a_text size_name refl) (Int (pos 0)) (spelled (Int (pos 0)) (formed_int (pos 0) (omega arith))),
-      (word type_name (a_text type_name refl) (Str (codes "collection")) (string (codes "collection") (a_text (codes "collection") refl)), tt)))),
+      (
+        word collection_name (a_text collection_name refl) (Str m.ns.coll) (string m.ns.coll t.1),
+        (
+          word metadata_name (a_text metadata_name refl) (Str m.text) (string m.text u),
+          (
+            word size_name (a_text size_name refl) (Int (pos 0)) (spelled (Int (pos 0)) (formed_int (pos 0) (omega arith))),
+            (word type_name (a_text type_name refl) (Str (codes "collection")) (string (codes "collection") (a_text (codes "collection") refl)), tt),
+          ),
+        ),
+      ),
     ))
 
 header_bytes : AreBytes (header_text header)
 unfolding header_text
 header_bytes =
-    bytes_are _ (document_bytes (header_fields header) (
+    bytes_are (document_text (header_fields header)) (document_bytes (header_fields header) (
       word concurrent_name (a_text concurrent_name refl) (Int (pos 1)) (spelled (Int (pos 1)) (formed_int (pos 1) (omega arith))),
-      (word version_name (a_text version_name refl) (Str format_version) (string format_version (a_text format_version refl)),
-      (word server_name (a_text server_name refl) (Str (codes "0.0.0")) (string (codes "0.0.0") (a_text (codes "0.0.0") refl)),
-      (word tool_name (a_text tool_name refl) (Str (codes "0.0.0")) (string (codes "0.0.0") (a_text (codes "0.0.0") refl)), tt))),
+      (
+        word version_name (a_text version_name refl) (Str format_version) (string format_version (a_text format_version refl)),
+        (
+          word server_name (a_text server_name refl) (Str (codes "0.0.0")) (string (codes "0.0.0") (a_text (codes "0.0.0") refl)),
+          (word tool_name (a_text tool_name refl) (Str (codes "0.0.0")) (string (codes "0.0.0") (a_text (codes "0.0.0") refl)), tt),
+        ),
+      ),
     ))
 
 metas_bytes : (before : List NsName) (ms : List Metadata) → AreMetas before ms → AreBytes (metas_text ms)
@@ -142,7 +154,7 @@ block_bytes n ts b h = pieces_join (block_of n ts) (end_of n b) (blocks ts h) (e
 
 module _ (documents : DocumentsAreBytes) where
   text_of_document : (d : List (List ℕ × Value)) → IsWellFormedDocument d → AreBytes (document_text d)
-  text_of_document d h = bytes_are _ (by_recursion (document_text d) (documents d h))
+  text_of_document d h = bytes_are (document_text d) (by_recursion (document_text d) (documents d h))
 
   rows_bytes : (rs : List Row) → AreKeptRows rs → AllBytes (document_texts rs)
   rows_bytes [] h = tt
