@@ -80,9 +80,6 @@ joined_size f o i d n c e =
       length-append f o,
     )
 
-letters : (t : List ℕ) → is_utf8 t ≡ true → IsUtf8 t
-letters t h = IsUtf8-from_is_utf8 t h
-
 -- ---- collections
 
 -- a text of few bytes
@@ -99,12 +96,12 @@ module _ (formed : TreesAreFormed) (prints : PrintsAreTexts) (strings : StringsA
   tree_text fs h = prints (tree_of (Object fs)) (formed (Object fs) (formed_object fs h))
 
   definition_text : (d : Tree) → IsGoodDefinition d → IsUtf8 (text_of d)
-  definition_text d g = subst (λ (t : Tree). IsUtf8 (text_of t)) (sym g.tree) (letters _ (tree_text g.fields g.formed))
+  definition_text d g = subst (λ (t : Tree). IsUtf8 (text_of t)) (sym g.tree) (IsUtf8-from_is_utf8 _ (tree_text g.fields g.formed))
 
   definitions_text : (ds : Definitions) → AllNamed ds → IsUtf8 (behind_commas (each text_of (values_in ds)))
   definitions_text [] h = IsUtf8-nil
   definitions_text (d ∷ ds) h =
-      IsUtf8-append (44 ∷ text_of d.1) (behind_commas (each text_of (values_in ds))) (IsUtf8-append (44 ∷ []) (text_of d.1) (letters _ (a_text (44 ∷ []) refl)) (definition_text d.1 h.0.0)) (definitions_text ds h.1)
+      IsUtf8-append (44 ∷ text_of d.1) (behind_commas (each text_of (values_in ds))) (IsUtf8-append (44 ∷ []) (text_of d.1) (IsUtf8-from_is_utf8 _ (a_text (44 ∷ []) refl)) (definition_text d.1 h.0.0)) (definitions_text ds h.1)
 
   definitions_size : (ds : Definitions) → AllNamed ds → length (behind_commas (each text_of (values_in ds))) ≤ 8193 * length ds
   definitions_size [] h = omega arith
@@ -120,12 +117,12 @@ module _ (formed : TreesAreFormed) (prints : PrintsAreTexts) (strings : StringsA
       let db = good_db n g in
       let coll = good_coll n g in
       let text : text_of (metadata_tree n.coll t.options (map.values t.indexes)) ≡ joined front (text_of t.options) indexes_text (behind_commas (each text_of (values_in ds))) name_text (text_of (trees.Str n.coll)) end_text = written n.coll t.options (map.values t.indexes) in
-      let options : IsUtf8 (text_of t.options) = subst (λ (x : Tree). IsUtf8 (text_of x)) (sym e) (letters _ (tree_text o q.formed)) in
+      let options : IsUtf8 (text_of t.options) = subst (λ (x : Tree). IsUtf8 (text_of x)) (sym e) (IsUtf8-from_is_utf8 _ (tree_text o q.formed)) in
       let short : length (text_of t.options) ≤ 8192 = subst (λ (x : Tree). length (text_of x) ≤ 8192) (sym e) q.short in
-      let name : IsUtf8 (text_of (trees.Str n.coll)) = letters _ (prints (trees.Str n.coll) (well_str n.coll (a_text n.coll coll.letters))) in
+      let name : IsUtf8 (text_of (trees.Str n.coll)) = IsUtf8-from_is_utf8 _ (prints (trees.Str n.coll) (well_str n.coll (a_text n.coll coll.letters))) in
       let whole : IsUtf8 (text_of (metadata_tree n.coll t.options (map.values t.indexes))) = subst IsUtf8 (sym text)
       (joined_text front (text_of t.options) indexes_text (behind_commas (each text_of (values_in ds))) name_text (text_of (trees.Str n.coll)) end_text
-      (letters front (a_text front refl)) options (letters indexes_text (a_text indexes_text refl)) (definitions_text ds a) (letters name_text (a_text name_text refl)) name (letters end_text (a_text end_text refl))) in
+      (IsUtf8-from_is_utf8 front (a_text front refl)) options (IsUtf8-from_is_utf8 indexes_text (a_text indexes_text refl)) (definitions_text ds a) (IsUtf8-from_is_utf8 name_text (a_text name_text refl)) name (IsUtf8-from_is_utf8 end_text (a_text end_text refl))) in
       let few : length ds ≤ 63 = omega (arith, k.few, map.len-entries t.indexes) in
       let size = joined_size front (text_of t.options) indexes_text (behind_commas (each text_of (values_in ds))) name_text (text_of (trees.Str n.coll)) end_text in
       (is_utf8-from_IsUtf8 _ whole, omega (arith, ap length text, size, short, definitions_size ds a, few, strings n.coll, db.short, coll.short))

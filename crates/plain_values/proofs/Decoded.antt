@@ -1,10 +1,10 @@
 -- What is decoded from digits and from symbols is of bytes.
-use Rattle.std.proofs.Common.{◌≡◌, ℕ, zero, suc, ◌+◌, ◌-◌, ◌*◌, ◌/◌, ◌%◌, ◌<◌, Bool, true, false, ◌⊎◌, List, [], ◌∷◌, ◌++◌, length, take, drop, reverse, get_or, slice_index, refl, ◌∙◌, inl, inr, arith, Option, Some, None, Result, Ok, Err, eqb, ltb}
+use Rattle.std.proofs.Common.{◌≡◌, ℕ, zero, suc, ◌+◌, ◌-◌, ◌*◌, ◌/◌, ◌%◌, ◌<◌, Bool, true, false, ◌⊎◌, List, [], ◌∷◌, length, take, drop, reverse, get_or, slice_index, refl, ◌∙◌, inl, inr, arith, Option, Some, None, Result, Ok, Err, eqb, ltb}
 use Rattle.std.specs.Prelude.{IfOk, slice_set, if◌then◌else◌}
-use Rattle.std.specs.List.{AllByRecursion}
 use Rattle.std.proofs.lemmas.Bool.{cases_Bool, cases_eq, cases_lt, eqb-true, eqb-false}
 use Rattle.std.proofs.lemmas.List.{get_or_past, get_or-reverse, get_or-set_same, get_or-set_other, set_past, length-reverse}
 use Rattle.bson_value.specs.WellFormed.{AreBytes, IsRun}
+use Rattle.spelled_bytes.proofs.Runs.{Bytes, by_index, join}
 use Rattle.hex.specs.Hex.{decode_pairs, decode_sized}
 use Rattle.hex.specs.declared.error.FromHexError.{FromHexError}
 use Rattle.hex.specs.declared.error.FromHexError.TheVariants.{OddLength, InvalidStringLength}
@@ -18,19 +18,6 @@ use Rattle.base64.specs.declared.engine.DecodePaddingMode.{DecodePaddingMode}
 use Rattle.base64.proofs.Tables.{IsDecodeTable_from, are_tables_inverse}
 
 -- ---- runs of bytes
-
--- each is below 256
-abbrev Bytes : List ℕ → Type 0
-Bytes bs = AllByRecursion (λ b. b < 256) bs
-
-pub by_index : (bs : List ℕ) → Bytes bs → AreBytes bs
-by_index [] h i = omega arith
-by_index (b ∷ bs) h zero = h.0
-by_index (b ∷ bs) h (suc i) = by_index bs h.1 i
-
-join : (a b : List ℕ) → Bytes a → Bytes b → Bytes (a ++ b)
-join [] b h g = g
-join (x ∷ a) b h g = (h.0, join a b h.1 g)
 
 front : (n : ℕ) (a : List ℕ) → Bytes a → Bytes (take n a)
 front zero a h = tt

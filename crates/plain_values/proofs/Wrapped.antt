@@ -20,7 +20,8 @@ use Rattle.extjson.specs.Values.{Read, ◌>>=◌, string_of, number_of, true_of,
 use Rattle.extjson.proofs.RoundTrips.{Holds}
 use Rattle.extjson.proofs.Wholes.{within_fits}
 use Rattle.plain_values.proofs.Levels.{made}
-use Rattle.plain_values.proofs.Decoded.{by_index, reversed}
+use Rattle.spelled_bytes.proofs.Runs.{by_index}
+use Rattle.plain_values.proofs.Decoded.{reversed}
 use Rattle.plain_values.proofs.Parts.{next, after_any, IsText, string_text, AreMembers, members_well, only_one, BothAre, both_of, weaker, IsSame, zero_free, IsWithin, ranged_within, counted_below, hex_run, base64_bytes, subtype_small}
 
 -- well-formed, and without a document that has an outermost name of a wrapper
