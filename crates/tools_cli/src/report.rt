@@ -14,6 +14,7 @@ use extjson::tree_of;
 use json_text::print;
 use json_tree::Tree;
 use restore_plan::RestoreFault;
+use schedule_dump::{renamed_line, rolled_line};
 use schedule_text::LineKind;
 use std::alloc::{AllocError, Global};
 use tool_io::{Fault, Sink};
@@ -300,6 +301,13 @@ pub fn tell<R: Sink>(alloc: Global, status: Status, report: &mut R) -> Status
         }
         Status::BadArchive(fault) => tell_format(alloc, fault, report),
         Status::NotRestored(fault) => tell_failure(alloc, fault, report),
+        Status::Rolled { start, oldest } => {
+            let text = rolled_line(alloc, start, oldest);
+            tell_text(report, text, Status::Rolled { start, oldest })
+        }
+        Status::Renamed { ts } => {
+            tell_text(report, renamed_line(alloc, ts), Status::Renamed { ts })
+        }
         Status::ReadFault => tell_line(report, b"read fault\n", Status::ReadFault),
         Status::WriteFault => tell_line(report, b"write fault\n", Status::WriteFault),
         Status::NoMemory => tell_line(report, b"no memory\n", Status::NoMemory),
