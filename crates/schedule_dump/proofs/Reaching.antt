@@ -1,5 +1,7 @@
 -- What one line makes of how far lines were run.
-use Rattle.std.proofs.Common.{◌≡◌, ℕ, List, [], ◌∷◌, ◌++◌, refl, sym, ap, ◌∙◌, subst, append_assoc, append-nil, Option, Some, None, Result, Ok, Err, length, map as each, suc, arith}
+use Rattle.std.proofs.Common.{◌≡◌, ℕ, List, [], ◌∷◌, ◌++◌, refl, sym, ap, ◌∙◌, subst, append_assoc, append-nil, Option, Some, None, Result, Ok, Err, length, map as each, suc, inl, inr, arith}
+use Rattle.std.specs.Prelude.{◌⊎◌}
+use Rattle.bson_value.specs.declared.namespace.NsName.{NsName}
 use Rattle.std.specs.Io.KnownBytes.{Appends}
 use Rattle.std.proofs.lemmas.Grind.{flat_map-append}
 use Rattle.tool_io.specs.Causes.{AppendsFront}
@@ -14,16 +16,19 @@ use Rattle.history_model.specs.WellFormed.{AreWellFormedLines}
 use Rattle.history_model.specs.Invariants.{RunOk}
 use Rattle.history_model.specs.Laws.{RunsStayOk}
 use Rattle.history_model.specs.Commands.{applied}
-use Rattle.history_model.specs.Runs.{Schedule, Run, DumpState, Outcome, Done, Refusal, NotTaken, NotNow, first_run, first_stage, started, on_line, or_refused, after_line, after_lines, in_dump, dumped, commanded, names_in, copied_out, marked_out, tailed_out, begun, finished, run}
+use Rattle.history_model.specs.Runs.{Schedule, Run, DumpState, Outcome, Done, Refusal, NotTaken, NotNow, first_run, first_stage, started, on_line, or_refused, after_line, after_lines, in_dump, copied, marked, tailed, dumped, commanded, names_in, copied_out, marked_out, tailed_out, begun, finished, run}
 use Rattle.history_model.specs.Histories.{stopped_by, stopped, refusals_told}
 use Rattle.history_model.proofs.WellFormed.{lines_front}
 use Rattle.history_model.proofs.Inductive.{first_holds}
 use Rattle.store_core.specs.Stores.{Stored, StandsAt}
-use Rattle.store_core.specs.Applying.{AppliesAt}
+use Rattle.store_core.specs.Applying.{AppliesAt, RefusesAt}
+use Rattle.store_core.specs.declared.fault.StoreFault.{StoreFault}
+use Rattle.store_core.specs.declared.fault.StoreFault.TheVariants as store_faults
 use Rattle.schedule_report.specs.Lines.{refusal_line, refusals_text}
 use Rattle.schedule_report.specs.Schedules.{numbered}
-use Rattle.schedule_dump.specs.Lines.{Tells, TellsFront, Runs}
-use Rattle.schedule_dump.specs.Progress.{Reached, Waits, Starts, RanBefore}
+use Rattle.schedule_dump.specs.declared.fault.RunFault.{RunFault}
+use Rattle.schedule_dump.specs.Lines.{TellsFront, Runs, Commands, Refuses}
+use Rattle.schedule_dump.specs.Progress.{Reached, Waits, Starts}
 use Rattle.schedule_dump.specs.Outcomes.{TellsFirst}
 use Rattle.schedule_dump.proofs.Refused.{stopped_more, line_more}
 
@@ -65,6 +70,18 @@ command_front i c r before = by (applied c r.stage)
     by : (y : Result (Stage × List Made) Refused) → (now : List (ℕ × Refusal)) × ((or_refused i (commanded y r) r).refused ≡ r.refused ++ now) × AppendsFront before before (refusals_text now)
     by (Ok x) = ([], sym (append-nil r.refused), front_none before [])
     by (Err x) = ((i, NotTaken x) ∷ [], refl, front_none before (refusals_text ((i, NotTaken x) ∷ [])))
+
+-- a command that the store refused
+pub refused_command : (i : ℕ) (c : Command) (row : Refused) (fault : StoreFault) (old new : Stored) (before after : Option (List ℕ)) (result : Result (Unit {0}) RunFault) → fault ≡ store_faults.Refused row → ((st : Stage) → StandsAt old st → RefusesAt c st fault) → new ≡ old →
+    Refuses (i, NotTaken row) result before after → Commands (i, lines.Cmd c) result old new before after
+refused_command i c row fault old new before after result is f same t = by result t
+  where
+    line : (r : Run) → StandsAt old r.stage → on_line (lines.Cmd c) r ≡ Err (NotTaken row)
+    line r at = row_refuses c row r (subst (RefusesAt c r.stage) is (f r.stage at))
+
+    by : (result : Result (Unit {0}) RunFault) → Refuses (i, NotTaken row) result before after → Commands (i, lines.Cmd c) result old new before after
+    by (Ok u) t = λ r at. refused_runs i (lines.Cmd c) (NotTaken row) r new before after (line r at) (subst (λ (z : Stored). StandsAt z r.stage) (sym same) at) t
+    by (Err e) t = (t.0, λ r at. refused_front i (lines.Cmd c) (NotTaken row) r before after (line r at) t.1)
 
 -- a command and a refused line leave the dump as it stands
 pub record Beside (r s : Run) : Type 0 where
@@ -119,6 +136,15 @@ first_front s first now w =
 
 -- ---- before the dump starts
 
+-- a step of it
+abbrev pub IsEarly : Line → Type 0
+IsEarly l = ((n : NsName) × (k : ℕ) × (l ≡ lines.Copy n k)) ⊎ ((l ≡ lines.Mark) ⊎ ((n : ℕ) × (l ≡ lines.Tail n)))
+
+early : (l : Line) (r : Run) → IsEarly l → r.dump ≡ None → on_line l r ≡ Err NotNow
+early l r (inl h) e = ap (λ (x : Line). on_line x r) h.2 ∙ ap (λ (o : Option DumpState). in_dump (copied h.0 h.1) o r) e
+early l r (inr (inl h)) e = ap (λ (x : Line). on_line x r) h ∙ ap (λ (o : Option DumpState). in_dump marked o r) e
+early l r (inr (inr h)) e = ap (λ (x : Line). on_line x r) h.1 ∙ ap (λ (o : Option DumpState). in_dump (tailed h.0) o r) e
+
 pub at_first : (s : Schedule) (store : Stored) (a : Option (List ℕ)) → RunsStayOk → AreWellFormedLines s.lines → StandsAt store (first_stage s.caps) → Waits s store s.lines a a
 at_first s store a stay formed stands =
     record {
@@ -136,25 +162,25 @@ at_first s store a stay formed stands =
     }
 
 module _ (s : Schedule) (old : Stored) (i : ℕ) (l : Line) (rest : List (ℕ × Line)) (first before after : Option (List ℕ)) (w : Waits s old ((i, l) ∷ rest) first before) where
-  waits_by : (new : Stored) → SameDump w.at (after_line (i, l) w.at) → Runs (i, l) w.at new before after → Waits s new rest first after
-  waits_by new same runs =
+  waits_by : (new : Stored) → Beside w.at (after_line (i, l) w.at) → Runs (i, l) w.at new before after → Waits s new rest first after
+  waits_by new b runs =
       record {
         at = after_line (i, l) w.at;
-        none = same.dump ∙ w.none;
-        empty = same.steps ∙ w.empty;
-        done = same.outcome ∙ w.done;
-        reached = reached_on s old (i, l) rest w.at first before after w.reached new (same.outcome ∙ w.done) runs;
+        none = ap (λ (z : Run). z.dump) b.is ∙ w.none;
+        empty = ap (λ (z : Run). z.steps) b.is ∙ w.empty;
+        done = ap (λ (z : Run). z.outcome) b.is ∙ w.done;
+        reached = reached_on s old (i, l) rest w.at first before after w.reached new (ap (λ (z : Run). z.outcome) b.is ∙ w.done) runs;
       }
 
-  -- a line of the dump that has no place
-  pub waits_refused : on_line l w.at ≡ Err NotNow → Appends before after (refusal_line (i, NotNow)) → Waits s old rest first after
-  waits_refused e a = waits_by old (refused_beside i l NotNow w.at e) (refused_runs i l NotNow w.at old before after e w.reached.stands a)
+  not_now : IsEarly l → on_line l w.at ≡ Err NotNow
+  not_now h = early l w.at h w.none
 
-  pub waits_stops : on_line l w.at ≡ Err NotNow → AppendsFront before after (refusal_line (i, NotNow)) → AppendsFront first after (refusals_text (refusals_told s))
-  waits_stops e a = line_stops s old (i, l) rest w.at first before after w.reached (refused_front i l NotNow w.at before after e a)
+  -- a step of the dump has no place
+  pub waits_refused : IsEarly l → Appends before after (refusal_line (i, NotNow)) → Waits s old rest first after
+  waits_refused h a = waits_by old (refused_beside i l NotNow w.at (not_now h)) (refused_runs i l NotNow w.at old before after (not_now h) w.reached.stands a)
 
-  pub not_now : (g : DumpState → Run → Result Run Refusal) → in_dump g w.at.dump w.at ≡ Err NotNow
-  not_now g = ap (λ (o : Option DumpState). in_dump g o w.at) w.none
+  pub waits_stops : IsEarly l → AppendsFront before after (refusal_line (i, NotNow)) → AppendsFront first after (refusals_text (refusals_told s))
+  waits_stops h a = line_stops s old (i, l) rest w.at first before after w.reached (refused_front i l NotNow w.at before after (not_now h) a)
 
 pub waits_command : (s : Schedule) (old new : Stored) (i : ℕ) (c : Command) (rest : List (ℕ × Line)) (first before after : Option (List ℕ)) → ((r : Run) → StandsAt old r.stage → Runs (i, lines.Cmd c) r new before after) → Waits s old ((i, lines.Cmd c) ∷ rest) first before → Waits s new rest first after
 waits_command s old new i c rest first before after f w = waits_by s old i (lines.Cmd c) rest first before after w new (command_beside i c w.at) (f w.at w.reached.stands)
@@ -183,30 +209,32 @@ starts_here s store i rest first now w =
       };
     })
 
-pub starts_at_end : (s : Schedule) (store : Stored) (rest : List (ℕ × Line)) (first now : Option (List ℕ)) → rest ≡ [] → Waits s store rest first now → Starts s store rest first now
-starts_at_end s store rest first now e w = subst (λ (z : List (ℕ × Line)). Starts s store z first now) (sym e) (by (subst (λ (z : List (ℕ × Line)). Waits s store z first now) e w))
-  where
-    by : Waits s store [] first now → Starts s store [] first now
-    by v = (let r = v.reached in
-    let is : finished v.at ≡ finished (started v.at) = ap (λ (o : Option DumpState). tailed_out (marked_out (copied_out (names_in (begun o v.at).dump) (begun o v.at)))) v.none in
-    let ok : RunOk s.caps v.at = r.good [] [] refl in
+ends_good : (s : Schedule) (at : Run) → RunOk s.caps at → (front back : List (ℕ × Line)) → [] ≡ front ++ back → RunOk s.caps (after_lines front (started at))
+ends_good s at ok [] back e = (ok.0, tt)
+ends_good s at ok (l ∷ ls) back e = cc
+
+starts_at_none : (s : Schedule) (store : Stored) (first now : Option (List ℕ)) → Waits s store [] first now → Starts s store [] first now
+starts_at_none s store first now w =
+    (let r = w.reached in
+    let is : finished w.at ≡ finished (started w.at) = ap (λ (o : Option DumpState). tailed_out (marked_out (copied_out (names_in (begun o w.at).dump) (begun o w.at)))) w.none in
+    let ok : RunOk s.caps w.at = r.good [] [] refl in
     record {
-      on = v.at;
-      empty = v.empty;
-      done = v.done;
+      on = w.at;
+      empty = w.empty;
+      done = w.done;
       ok = ok;
       reached = record {
         stands = r.stands;
-        good = λ front back e. good v.at ok front back e;
+        good = λ front back e. ends_good s w.at ok front back e;
         whole = r.whole ∙ is;
         stops = r.stops ∙ is;
         told = r.told;
       };
     })
-      where
-        good : (at : Run) → RunOk s.caps at → (front back : List (ℕ × Line)) → [] ≡ front ++ back → RunOk s.caps (after_lines front (started at))
-        good at ok [] back e = (ok.0, tt)
-        good at ok (l ∷ ls) back e = cc
+
+pub starts_at_end : (s : Schedule) (store : Stored) (rest : List (ℕ × Line)) (first now : Option (List ℕ)) → rest ≡ [] → Waits s store rest first now → Starts s store rest first now
+starts_at_end s store rest first now e w =
+    subst (λ (z : List (ℕ × Line)). Starts s store z first now) (sym e) (starts_at_none s store first now (subst (λ (z : List (ℕ × Line)). Waits s store z first now) e w))
 
 pub none_left : (lines : List NumberedLine) → length lines ≡ 0 → each numbered lines ≡ []
 none_left [] e = refl

@@ -26,10 +26,10 @@ start_is ts (Some d) h = ap Some h
 
 -- what was made up to the start is the history that isn't later
 module _ (c : Caps) (on : Run) (all : List (ℕ × Line)) (good : RunOk c on) where
-  end : Run
+  abbrev end : Run
   end = after_lines all (started on)
 
-  since : List Made
+  abbrev since : List Made
   since = made_by all (started on)
 
   up_to : state_of on.stage.rows ≡ state (filter (λ (e : Ts × Write). not_later e.0 on.stage.newest) (history_of (after_lines all (started on)).made))
