@@ -1,5 +1,5 @@
 -- What a dump comes to, at its start and at its end.
-use Rattle.std.proofs.Common.{◌≡◌, ℕ, ◌+◌, List, [], ◌∷◌, ◌++◌, length, refl, sym, ap, ◌∙◌, subst, append-nil, Option, Some, None, Result, Ok, Err, arith}
+use Rattle.std.proofs.Common.{◌≡◌, ℕ, ◌+◌, List, [], ◌∷◌, length, refl, sym, ap, ◌∙◌, subst, append-nil, Option, Some, Result, Ok, Err}
 use Rattle.std.specs.Io.KnownBytes.{Appends}
 use Rattle.std.proofs.lemmas.List.{length-append}
 use Rattle.tool_io.specs.Causes.{AppendsFront}
@@ -8,17 +8,16 @@ use Rattle.tool_io.specs.declared.ends.Fault.{Fault}
 use Rattle.tool_io.specs.declared.ends.Fault.TheVariants as ends_faults
 use Rattle.tool_io.proofs.Writes.{front_none}
 use Rattle.bson_value.specs.declared.value.Ts.{Ts}
-use Rattle.schedule_model.specs.declared.line.Line.{Line}
 use Rattle.history_model.specs.WellFormed.{AreWellFormedLines}
 use Rattle.history_model.specs.Laws.{DoneIsHealedBefore}
-use Rattle.history_model.specs.Runs.{Schedule, Run, Step, Documents, Entries, DumpState, Done, Renamed, Rolled, Refusal, finished, run, window, entries_from}
+use Rattle.history_model.specs.Runs.{Schedule, Run, Step, Documents, Entries, DumpState, Done, Refusal, finished, run, window, entries_from}
 use Rattle.history_model.specs.Histories.{Moments, moments_of, moments, reads, outcome, refusals, refusals_told, documents_in, entries_in, sent_in}
 use Rattle.dump_model.specs.Archives.{written}
 use Rattle.store_core.specs.Stores.{Stored}
 use Rattle.dump_run.specs.declared.fault.DumpFault.{DumpFault}
 use Rattle.dump_run.specs.declared.fault.DumpFault.TheVariants as steps
 use Rattle.dump_run.specs.declared.fault.DumpReport.{DumpReport}
-use Rattle.dump_run.specs.Dumps.{Dumping, counted, Meets}
+use Rattle.dump_run.specs.Dumps.{Dumping, counted}
 use Rattle.dump_run.specs.Calls.{steps_text, Reports, Finishes}
 use Rattle.dump_run.specs.Calls as calls
 use Rattle.dump_run.specs.Faults.{of_sink, IsOfSink}
@@ -26,11 +25,11 @@ use Rattle.schedule_report.specs.Lines.{refusals_text}
 use Rattle.schedule_dump.specs.declared.fault.RunFault.{RunFault}
 use Rattle.schedule_dump.specs.declared.fault.RunFault.TheVariants as faults
 use Rattle.schedule_dump.specs.Lines.{IsOfReport, fault_of}
-use Rattle.schedule_dump.specs.Progress.{Breaks, Starts, Ends, ends, Goes}
-use Rattle.schedule_dump.specs.Outcomes.{IsReport, TellsFirst, WritesAll, Fails, Dumps, Comes}
+use Rattle.schedule_dump.specs.Progress.{Breaks, Ends, ends, Goes}
+use Rattle.schedule_dump.specs.Outcomes.{TellsFirst, WritesAll, Fails, Dumps}
 use Rattle.schedule_dump.proofs.Refused.{finished_leaves}
 use Rattle.schedule_dump.proofs.Reaching.{told_first, first_front}
-use Rattle.schedule_dump.proofs.Going.{written_front, written_all, start_front, start_told}
+use Rattle.schedule_dump.proofs.Going.{written_front, written_all}
 
 -- ---- before the start
 
@@ -45,6 +44,10 @@ breaks s faults.NoMemory output before after b = (front_none output (written s),
 breaks s faults.OutputFault output before after b = absurd b.0
 breaks s (faults.Renamed ts) output before after b = absurd b.0
 breaks s (faults.Rolled start oldest) output before after b = absurd b.0
+
+-- it isn't the output that failed then
+pub never_output : (f : RunFault) (r : Result DumpReport RunFault) → IsOfReport f → r ≡ Err f → r ≡ Err faults.OutputFault → ⊥
+never_output f r h is e = (let same : f ≡ faults.OutputFault = cc in subst IsOfReport same h)
 
 -- the dump didn't start
 pub start_fails : (s : Schedule) (f : DumpFault) (a b c d : Option (List ℕ)) → IsOfSink f → AppendsFront a b (written s) → TellsFirst s c d → Fails (fault_of f) s (record { output = a; report = c }) (record { output = b; report = d })
@@ -103,7 +106,7 @@ module _ (s : Schedule) (store : Stored) (dump : Dumping) (first : Ends) (o q : 
       let k = healed s formed done in
       let r = h.2 in
       let moments_are : moments s ≡ record { start = Some report.start; last_read = Some report.last_read; end_ts = Some report.end } =
-          moments_in (run s).dump new.state report.end (ap (λ (z : Run). z.dump) whole ∙ h.1.there) r.end_ts ∙ (λ i. record { start = Some (sym r.start i); last_read = Some (sym r.last_read i); end_ts = Some report.end }) in
+      moments_in (run s).dump new.state report.end (ap (λ (z : Run). z.dump) whole ∙ h.1.there) r.end_ts ∙ (λ i. record { start = Some (sym r.start i); last_read = Some (sym r.last_read i); end_ts = Some report.end }) in
       let same = sym k.moments_are ∙ moments_are in
       let start : k.start ≡ report.start = some_is k.start report.start (ap (λ (z : Moments). z.start) same) in
       let end : k.last ≡ report.end = some_is k.last report.end (ap (λ (z : Moments). z.end_ts) same) in

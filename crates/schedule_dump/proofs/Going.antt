@@ -1,13 +1,12 @@
 -- What one line makes of a dump that goes on beside its store.
-use Rattle.std.proofs.Common.{◌≡◌, ℕ, List, [], ◌∷◌, ◌++◌, refl, sym, ap, ◌∙◌, subst, append_assoc, append-nil, Option, Some, None, Result, Ok, Err}
-use Rattle.std.specs.Prelude.{⊤}
+use Rattle.std.proofs.Common.{◌≡◌, ℕ, List, [], ◌∷◌, ◌++◌, refl, sym, ap, ◌∙◌, subst, append_assoc, append-nil, Option, Result, Ok, Err}
 use Rattle.std.specs.Io.KnownBytes.{Appends}
 use Rattle.tool_io.specs.Causes.{AppendsFront}
 use Rattle.tool_io.specs.Ends.{End}
 use Rattle.tool_io.proofs.Writes.{appends_none, appends_two, front_whole, front_first, front_next}
 use Rattle.state_model.specs.States.{State}
 use Rattle.archive_format.specs.Written.{prelude_text}
-use Rattle.coll_state.specs.Rows.{Rows, state_of}
+use Rattle.coll_state.specs.Rows.{state_of}
 use Rattle.schedule_model.specs.declared.command.Command.{Command}
 use Rattle.schedule_model.specs.declared.line.Line.{Line}
 use Rattle.schedule_model.specs.declared.line.Line.TheVariants as lines
@@ -18,18 +17,18 @@ use Rattle.dump_model.specs.Archives.{header, metas_of, text_of_steps, written}
 use Rattle.store_core.specs.Stores.{Stored, StandsAt}
 use Rattle.dump_run.specs.declared.fault.DumpFault.{DumpFault}
 use Rattle.dump_run.specs.declared.fault.DumpFault.TheVariants as steps
-use Rattle.dump_run.specs.Dumps.{Dumping, writing_of, Meets}
+use Rattle.dump_run.specs.Dumps.{Dumping, Meets}
 use Rattle.dump_run.specs.Calls.{steps_text, Writes, ComesTo, Marks, failed_with}
 use Rattle.dump_run.specs.Calls as calls
-use Rattle.dump_run.proofs.Repeating.{Grows, IsTurn, taken}
+use Rattle.dump_run.proofs.Repeating.{IsTurn, taken}
 use Rattle.schedule_report.specs.Lines.{refusal_line, refusals_text}
 use Rattle.schedule_dump.specs.declared.fault.RunFault.{RunFault}
 use Rattle.schedule_dump.specs.declared.fault.RunFault.TheVariants as faults
 use Rattle.schedule_dump.specs.Lines.{IsOfReport, TellsFront, Runs, Commands, Refuses, Settles}
-use Rattle.schedule_dump.specs.Progress.{start_state, Reached, Starts, Ends, ends, Goes}
+use Rattle.schedule_dump.specs.Progress.{start_state, Starts, Ends, ends, Goes}
 use Rattle.schedule_dump.specs.Outcomes.{TellsFirst, WritesAll, WritesFront, Fails, RunsOn}
 use Rattle.schedule_dump.proofs.Refused.{leaves}
-use Rattle.schedule_dump.proofs.Grown.{EndsAs, rest_grows, rest_ends, failing_writes, mark_stays}
+use Rattle.schedule_dump.proofs.Grown.{rest_grows, rest_ends, failing_writes, mark_stays}
 use Rattle.schedule_dump.proofs.Started.{starts_on}
 use Rattle.schedule_dump.proofs.Reaching.{Beside, command_beside, refused_beside, refused_runs, refused_front, reached_on, line_stops, told_first, first_front}
 

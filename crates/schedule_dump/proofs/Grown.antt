@@ -1,5 +1,5 @@
 -- What steps write grows, and a dump that has failed stays as it is.
-use Rattle.std.proofs.Common.{◌≡◌, ℕ, List, [], ◌∷◌, ◌++◌, Bool, true, false, not, refl, sym, ap, ◌∙◌, subst, append_assoc, append-nil, Option, Some, None, Result, Ok, Err, inl, inr}
+use Rattle.std.proofs.Common.{◌≡◌, ℕ, List, [], ◌∷◌, ◌++◌, true, false, not, refl, sym, ap, ◌∙◌, subst, append_assoc, append-nil, Option, Some, None, Result, Ok, Err, inl, inr}
 use Rattle.std.specs.Prelude.{⊤, ◌⊎◌, ◌||◌, is_some}
 use Rattle.bson_value.specs.declared.value.Ts.{Ts}
 use Rattle.schedule_model.specs.declared.line.Line.{Line}

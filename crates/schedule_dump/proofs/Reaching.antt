@@ -1,5 +1,5 @@
 -- What one line makes of how far lines were run.
-use Rattle.std.proofs.Common.{◌≡◌, ℕ, List, [], ◌∷◌, ◌++◌, refl, sym, ap, ◌∙◌, subst, append_assoc, append-nil, Option, Some, None, Result, Ok, Err, length, map as each, suc, inl, inr, arith}
+use Rattle.std.proofs.Common.{◌≡◌, ℕ, List, [], ◌∷◌, ◌++◌, refl, sym, ap, ◌∙◌, subst, append_assoc, append-nil, Option, None, Result, Ok, Err, inl, inr}
 use Rattle.std.specs.Prelude.{◌⊎◌}
 use Rattle.bson_value.specs.declared.namespace.NsName.{NsName}
 use Rattle.std.specs.Io.KnownBytes.{Appends}
@@ -10,13 +10,12 @@ use Rattle.schedule_model.specs.declared.command.Command.{Command}
 use Rattle.schedule_model.specs.declared.line.Line.{Line}
 use Rattle.schedule_model.specs.declared.line.Line.TheVariants as lines
 use Rattle.schedule_model.specs.declared.refused.Refused.{Refused}
-use Rattle.schedule_text.specs.declared.schedule.NumberedLine.{NumberedLine}
 use Rattle.history_model.specs.Stages.{Stage, Made}
 use Rattle.history_model.specs.WellFormed.{AreWellFormedLines}
 use Rattle.history_model.specs.Invariants.{RunOk}
 use Rattle.history_model.specs.Laws.{RunsStayOk}
 use Rattle.history_model.specs.Commands.{applied}
-use Rattle.history_model.specs.Runs.{Schedule, Run, DumpState, Outcome, Done, Refusal, NotTaken, NotNow, first_run, first_stage, started, on_line, or_refused, after_line, after_lines, in_dump, copied, marked, tailed, dumped, commanded, names_in, copied_out, marked_out, tailed_out, begun, finished, run}
+use Rattle.history_model.specs.Runs.{Schedule, Run, DumpState, Outcome, Done, Refusal, NotTaken, NotNow, first_run, first_stage, started, on_line, or_refused, after_line, after_lines, in_dump, copied, marked, tailed, dumped, commanded, names_in, copied_out, marked_out, tailed_out, begun, finished}
 use Rattle.history_model.specs.Histories.{stopped_by, stopped, refusals_told}
 use Rattle.history_model.proofs.WellFormed.{lines_front}
 use Rattle.history_model.proofs.Inductive.{first_holds}
@@ -25,7 +24,6 @@ use Rattle.store_core.specs.Applying.{AppliesAt, RefusesAt}
 use Rattle.store_core.specs.declared.fault.StoreFault.{StoreFault}
 use Rattle.store_core.specs.declared.fault.StoreFault.TheVariants as store_faults
 use Rattle.schedule_report.specs.Lines.{refusal_line, refusals_text}
-use Rattle.schedule_report.specs.Schedules.{numbered}
 use Rattle.schedule_dump.specs.declared.fault.RunFault.{RunFault}
 use Rattle.schedule_dump.specs.Lines.{TellsFront, Runs, Commands, Refuses}
 use Rattle.schedule_dump.specs.Progress.{Reached, Waits, Starts}
@@ -235,10 +233,3 @@ starts_at_none s store first now w =
 pub starts_at_end : (s : Schedule) (store : Stored) (rest : List (ℕ × Line)) (first now : Option (List ℕ)) → rest ≡ [] → Waits s store rest first now → Starts s store rest first now
 starts_at_end s store rest first now e w =
     subst (λ (z : List (ℕ × Line)). Starts s store z first now) (sym e) (starts_at_none s store first now (subst (λ (z : List (ℕ × Line)). Waits s store z first now) e w))
-
-pub none_left : (lines : List NumberedLine) → length lines ≡ 0 → each numbered lines ≡ []
-none_left [] e = refl
-none_left (x ∷ xs) e = absurd (by (length xs) e)
-  where
-    by : (n : ℕ) → suc n ≡ 0 → ⊥
-    by n f = omega arith

@@ -1,17 +1,16 @@
 -- What lines leave of what was refused.
-use Rattle.std.proofs.Common.{◌≡◌, ℕ, zero, suc, length, List, [], ◌∷◌, ◌++◌, Bool, true, false, not, refl, sym, ap, ◌∙◌, subst, append_assoc, append-nil, Option, Some, None, Result, Ok, Err}
+use Rattle.std.proofs.Common.{◌≡◌, ℕ, zero, suc, length, List, [], ◌∷◌, ◌++◌, true, false, not, refl, sym, ap, ◌∙◌, subst, append_assoc, append-nil, Option, Some, None, Result, Ok, Err}
 use Rattle.std.specs.Prelude.{⊤, ◌||◌, is_some}
 use Rattle.std.specs.FinMap as map
 use Rattle.bson_value.specs.declared.namespace.NsName.{NsName}
 use Rattle.bson_value.specs.declared.value.Ts.{Ts}
 use Rattle.copy_model.specs.Cursors.{Cursor}
-use Rattle.schedule_model.specs.declared.command.Command.{Command}
 use Rattle.schedule_model.specs.declared.line.Line.{Line}
 use Rattle.schedule_model.specs.declared.line.Line.TheVariants as lines
 use Rattle.schedule_model.specs.declared.refused.Refused.{Refused}
 use Rattle.history_model.specs.Stages.{Stage, Made}
 use Rattle.history_model.specs.Commands.{applied}
-use Rattle.history_model.specs.Runs.{Run, DumpState, Outcome, Done, Renamed, Rolled, Refusal, NotNow, NoCursor, started, on_line, or_refused, after_line, in_dump, still, copied, copied_by, looked, read_on, all_ended, marked, marked_by, renamed_since, is_gone, rolled, rolled_or, tailed, tailed_to, sent_on, window, entries_from, dumped, commanded, repeated, last_step, names_in, rows_left, copied_out, begun, marked_out, tailed_out, finished}
+use Rattle.history_model.specs.Runs.{Run, DumpState, Outcome, Done, Renamed, Rolled, Refusal, NotNow, NoCursor, on_line, or_refused, after_line, in_dump, still, copied, copied_by, looked, read_on, all_ended, marked, marked_by, renamed_since, is_gone, rolled, rolled_or, tailed, tailed_to, sent_on, window, entries_from, dumped, commanded, repeated, last_step, names_in, rows_left, copied_out, begun, marked_out, finished}
 use Rattle.history_model.specs.Histories.{stopped_by, stopped}
 
 -- a line that is taken leaves what was refused

@@ -1,5 +1,5 @@
 -- The state on which a dump starts is the one that the schedule's dump is said to start on.
-use Rattle.std.proofs.Common.{◌≡◌, ℕ, List, [], ◌∷◌, ◌++◌, true, false, not, refl, sym, ap, ◌∙◌, subst, Option, Some, None}
+use Rattle.std.proofs.Common.{◌≡◌, ℕ, List, ◌++◌, true, false, not, refl, sym, ap, ◌∙◌, subst, Option, Some, None}
 use Rattle.std.specs.Prelude.{filter}
 use Rattle.bson_value.specs.declared.value.Ts.{Ts}
 use Rattle.schedule_model.specs.declared.line.Line.{Line}
@@ -35,9 +35,9 @@ module _ (c : Caps) (on : Run) (all : List (ℕ × Line)) (good : RunOk c on) wh
   up_to : state_of on.stage.rows ≡ state (filter (λ (e : Ts × Write). not_later e.0 on.stage.newest) (history_of (after_lines all (started on)).made))
   up_to =
       good.0.state ∙ ap state (sym (ap (λ (z : List Made). filter (λ (e : Ts × Write). not_later e.0 on.stage.newest) (history_of z)) (lines_made all (started on))
-          ∙ history_front (λ (ts : Ts). not_later ts on.stage.newest) on.made since
-          (each_map (λ (m : Made). earlier on.stage.newest m.ts ≡ false) (λ (m : Made). not_later m.ts on.stage.newest ≡ true) (λ m f. ap not f) on.made (none_above on.made first_ts on.stage.newest good.0.rises))
-          (each_map (λ (m : Made). earlier on.stage.newest m.ts ≡ true) (λ (m : Made). not_later m.ts on.stage.newest ≡ false) (λ m f. ap not f) since (all_above since on.stage.newest end.stage.newest (lines_rise all (started on))))))
+      ∙ history_front (λ (ts : Ts). not_later ts on.stage.newest) on.made since
+      (each_map (λ (m : Made). earlier on.stage.newest m.ts ≡ false) (λ (m : Made). not_later m.ts on.stage.newest ≡ true) (λ m f. ap not f) on.made (none_above on.made first_ts on.stage.newest good.0.rises))
+      (each_map (λ (m : Made). earlier on.stage.newest m.ts ≡ true) (λ (m : Made). not_later m.ts on.stage.newest ≡ false) (λ m f. ap not f) since (all_above since on.stage.newest end.stage.newest (lines_rise all (started on))))))
 
 pub starts_on : (s : Schedule) (on : Run) (rest : List (ℕ × Line)) → RunOk s.caps on → run s ≡ finished (after_lines rest (started on)) → state_of on.stage.rows ≡ start_state s
 starts_on s on rest ok whole =
@@ -45,6 +45,6 @@ starts_on s on rest ok whole =
     let f = finished_lines x in
     let all = rest ++ f.0 in
     let is : run s ≡ after_lines all (started on) =
-        whole ∙ (f.1 ∙ (ap (after_lines f.0) (begun_is on.stage.newest x.dump x (lines_start on.stage.newest rest (started on) refl)) ∙ sym (lines_append rest f.0 (started on)))) in
+    whole ∙ (f.1 ∙ (ap (after_lines f.0) (begun_is on.stage.newest x.dump x (lines_start on.stage.newest rest (started on) refl)) ∙ sym (lines_append rest f.0 (started on)))) in
     let starts : (moments s).start ≡ Some on.stage.newest = start_is on.stage.newest (run s).dump (subst (λ (z : Run). StartIs on.stage.newest z.dump) (sym is) (lines_start on.stage.newest all (started on) refl)) in
     up_to s.caps on all ok ∙ (ap (λ (z : Run). state (filter (λ (e : Ts × Write). not_later e.0 on.stage.newest) (history_of z.made))) (sym is) ∙ ap (λ (o : Option Ts). state_at o (history s)) (sym starts)))

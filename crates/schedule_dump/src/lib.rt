@@ -2,13 +2,13 @@
 #![tactic(auto)]
 
 mod command;
-mod dump;
 mod fault;
 mod lines;
+mod run;
 mod start;
 mod step;
 mod well_formed;
 
-pub use dump::dump;
 pub use fault::RunFault;
 pub use lines::{renamed_line, rolled_line, ts_text, write_report};
+pub use run::dump;

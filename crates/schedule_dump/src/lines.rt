@@ -45,15 +45,13 @@ fn report_line(alloc: Global, dump: DumpReport) -> Result<String, AllocError>
     let end = ts_text(alloc, dump.end)?;
     let documents = dump.documents;
     let entries = dump.entries;
-    format!(in alloc; "start {start} lastread {last_read} end {end} documents {documents} entries {entries}\n")
+    format!(in alloc;
+        "start {start} lastread {last_read} end {end} documents {documents} entries {entries}\n"
+    )
 }
 
 /// Tells the moments and counts of a dump, in one write. Behind an error some front of the line was written.
-pub fn write_report<R: Sink>(
-    alloc: Global,
-    dump: DumpReport,
-    report: &mut R,
-) -> Result<(), Fault>
+pub fn write_report<R: Sink>(alloc: Global, dump: DumpReport, report: &mut R) -> Result<(), Fault>
     ensures ok { OnOk result (Appends (R.end report.old).bytes (R.end report.new).bytes (report_line dump)) }
     ensures err { OnErr result (AppendsFront (R.end report.old).bytes (R.end report.new).bytes (report_line dump)) }
     ensures later { (R.end report.old).faults ≤ (R.end report.new).faults }

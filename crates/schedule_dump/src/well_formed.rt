@@ -10,7 +10,8 @@ fn change_is_well_formed(change: &DocumentCommand)
     ensures { IsWellFormedChange change.now }
 {
     match change {
-        DocumentCommand::Insert { doc, .. } | DocumentCommand::Replace { doc, .. } => doc.is_well_formed(),
+        DocumentCommand::Insert { doc, .. } | DocumentCommand::Replace { doc, .. } =>
+            doc.is_well_formed(),
         DocumentCommand::Update { ops, .. } => ops.is_well_formed(),
         DocumentCommand::Delete { .. } => {}
     }
