@@ -1,6 +1,6 @@
 -- Which status is due, and what each command says.
 use Rattle.std.proofs.Common.{ℕ, ◌≡◌, List, [], inl, inr, refl, sym, ap, subst, ◌∙◌}
-use Rattle.std.specs.Prelude.{Option, None, Some, Ok, Err, IfSome}
+use Rattle.std.specs.Prelude.{Option, None, Some, Result, Ok, Err, IfSome}
 use Rattle.demux.proofs.Begin.{keeps_same}
 use Rattle.restore_plan.specs.declared.plan.Plan.{Plan}
 use Rattle.restore_plan.specs.Outcome.{Outcome, restores, refuses, fails, IsOutcome, OnInput}
@@ -18,31 +18,35 @@ use Rattle.tool_io.specs.Ends.{End}
 use Rattle.tools_cli.specs.Ends.{Turn, Untouched}
 use Rattle.tools_cli.specs.Statuses.{Gives}
 use Rattle.tools_cli.specs.SourceAnswers.{reading_code, SourceSays, SourceAnswers}
+use Rattle.tools_cli.specs.DumpAnswers.{dump_code, DumpSays, DumpAnswers}
+use Rattle.tools_cli.specs.DumpAnswers as dumps
 use Rattle.tools_cli.specs.RestoreAnswers.{outcome_code, RestoreSays, RestoreAnswers}
 use Rattle.tools_cli.specs.ShowAnswers.{Shown, ShowAnswers}
 use Rattle.tools_cli.specs.Answers.{Says}
 use Rattle.tools_cli.proofs.Reading.{refused, failed, none_read}
 use Rattle.tools_cli.proofs.Telling.{keeps_front}
 
--- `source`
+-- `source` and `dump`
 
-read_code : (known now : Option (List ℕ)) (s : Schedule) (all : List ℕ) → IfSome known (λ b. (schedule_of b ≡ Ok s) × (now ≡ Some [])) → known ≡ Some all → 0 ≡ reading_code (schedule_of all)
-read_code None now s all h e = absurd cc
-read_code (Some b) now s all h e =
+read_as : (f : Result Schedule Bad → ℕ) (known now : Option (List ℕ)) (s : Schedule) (all : List ℕ) → IfSome known (λ b. (schedule_of b ≡ Ok s) × (now ≡ Some [])) → known ≡ Some all → f (Ok s) ≡ f (schedule_of all)
+read_as f None now s all h e = absurd cc
+read_as f (Some b) now s all h e =
     let whole : b ≡ all = cc in
-    sym (ap (λ (z : List ℕ). reading_code (schedule_of z)) (sym whole) ∙ ap reading_code h.0)
+    sym (ap (λ (z : List ℕ). f (schedule_of z)) (sym whole) ∙ ap f h.0)
 
-bad_code : (known : Option (List ℕ)) (bad : Bad) (all : List ℕ) → IfSome known (λ b. schedule_of b ≡ Err bad) → known ≡ Some all → 2 ≡ reading_code (schedule_of all)
-bad_code None bad all h e = absurd cc
-bad_code (Some b) bad all h e =
+bad_as : (f : Result Schedule Bad → ℕ) (known : Option (List ℕ)) (bad : Bad) (all : List ℕ) → IfSome known (λ b. schedule_of b ≡ Err bad) → known ≡ Some all → f (Err bad) ≡ f (schedule_of all)
+bad_as f None bad all h e = absurd cc
+bad_as f (Some b) bad all h e =
     let whole : b ≡ all = cc in
-    sym (ap (λ (z : List ℕ). reading_code (schedule_of z)) (sym whole) ∙ ap reading_code h)
+    sym (ap (λ (z : List ℕ). f (schedule_of z)) (sym whole) ∙ ap f h)
 
 source_due : (order : SourceOrder) (s : Status) (i o r : Turn) → SourceSays order s i o r → (all : List ℕ) → i.before.bytes ≡ Some all → Gives s (reading_code (schedule_of all))
-source_due order is.Done i o r h all e = inl (read_code i.before.bytes i.after.bytes h.0 all h.1 e)
+source_due order is.Done i o r h all e = inl (read_as reading_code i.before.bytes i.after.bytes h.0 all h.1 e)
 source_due order (is.Usage at) i o r h all e = absurd h
-source_due order (is.BadSchedule line kind) i o r h all e = inl (bad_code i.before.bytes (line, kind) all h.0 e)
+source_due order (is.BadSchedule line kind) i o r h all e = inl (bad_as reading_code i.before.bytes (line, kind) all h.0 e)
 source_due order (is.BadArchive f) i o r h all e = absurd h
+source_due order (is.Rolled start oldest) i o r h all e = absurd h
+source_due order (is.Renamed ts) i o r h all e = absurd h
 source_due order (is.NotRestored f) i o r h all e = absurd h
 source_due order is.ReadFault i o r h all e = inr tt
 source_due order is.WriteFault i o r h all e = inr tt
@@ -50,6 +54,21 @@ source_due order is.NoMemory i o r h all e = inr tt
 
 pub source_says : (order : SourceOrder) (s : Status) (i o r : Turn) → SourceSays order s i o r → SourceAnswers order s i o r
 source_says order s i o r h = record { says = h; due = source_due order s i o r h }
+
+dump_due : (s : Status) (i o r : Turn) → DumpSays s i o r → (all : List ℕ) → i.before.bytes ≡ Some all → Gives s (dump_code (schedule_of all))
+dump_due is.Done i o r h all e = inl (sym (ap dumps.outcome_code h.2.1.1.1) ∙ read_as dump_code i.before.bytes i.after.bytes h.0 all h.1 e)
+dump_due (is.Usage at) i o r h all e = absurd h
+dump_due (is.BadSchedule line kind) i o r h all e = inl (bad_as dump_code i.before.bytes (line, kind) all h.0 e)
+dump_due (is.BadArchive f) i o r h all e = absurd h
+dump_due (is.Rolled start oldest) i o r h all e = inl (sym (ap dumps.outcome_code h.2.0) ∙ read_as dump_code i.before.bytes i.after.bytes h.0 all h.1 e)
+dump_due (is.Renamed ts) i o r h all e = inl (sym (ap dumps.outcome_code h.2.0) ∙ read_as dump_code i.before.bytes i.after.bytes h.0 all h.1 e)
+dump_due (is.NotRestored f) i o r h all e = absurd h
+dump_due is.ReadFault i o r h all e = inr tt
+dump_due is.WriteFault i o r h all e = inr tt
+dump_due is.NoMemory i o r h all e = inr tt
+
+pub dump_says : (s : Status) (i o r : Turn) → DumpSays s i o r → DumpAnswers s i o r
+dump_says s i o r h = record { says = h; due = dump_due s i o r h }
 
 -- `restore`
 
@@ -65,6 +84,8 @@ restore_due order is.Done i o h all q e k = inl (same_code order.plan i.before.b
 restore_due order (is.Usage at) i o h all q e k = absurd h
 restore_due order (is.BadSchedule line kind) i o h all q e k = absurd h
 restore_due order (is.BadArchive f) i o h all q e k = inl (same_code order.plan i.before.bytes (refuses f) q all (refused order.plan i (refuses f) h.0) e k)
+restore_due order (is.Rolled start oldest) i o h all q e k = absurd h
+restore_due order (is.Renamed ts) i o h all q e k = absurd h
 restore_due order (is.NotRestored f) i o h all q e k = inl (same_code order.plan i.before.bytes (fails f) q all (failed order.plan i f h.0) e k)
 restore_due order is.ReadFault i o h all q e k = inr tt
 restore_due order is.WriteFault i o h all q e k = inr tt
@@ -80,6 +101,8 @@ show_says text is.Done i o r h = record { unread = keeps_same i.bytes; shown = h
 show_says text (is.Usage at) i o r h = absurd h
 show_says text (is.BadSchedule line kind) i o r h = absurd h
 show_says text (is.BadArchive f) i o r h = absurd h
+show_says text (is.Rolled start oldest) i o r h = absurd h
+show_says text (is.Renamed ts) i o r h = absurd h
 show_says text (is.NotRestored f) i o r h = absurd h
 show_says text is.ReadFault i o r h = absurd h
 show_says text is.WriteFault i o r h = record { unread = keeps_same i.bytes; shown = h; silent = refl; due = inr tt }
@@ -95,6 +118,7 @@ show_nothing text i o r = show_says text is.NoMemory i (still o) r (keeps_front 
 
 pub memory_says : (m : Meaning) (i o r : End) → Says m is.NoMemory (still i) (still o) (still r)
 memory_says (Ok (orders.Source order)) i o r = source_says order is.NoMemory (still i) (still o) (still r) (inl (keeps_same o.bytes, refl))
+memory_says (Ok orders.Dump) i o r = dump_says is.NoMemory (still i) (still o) (still r) (inl (keeps_same o.bytes, refl))
 memory_says (Ok (orders.Restore order)) i o r = restore_says order is.NoMemory (still i) (still o) (still r) (none_read order.plan i, inl (keeps_same o.bytes)) refl
 memory_says (Ok orders.Help) i o r = show_nothing HELP.now i o r
 memory_says (Ok orders.Version) i o r = show_nothing VERSION.now i o r

@@ -6,5 +6,6 @@ pub mod Numbers
 pub mod Reading
 pub mod Stopped
 pub mod Telling
+pub mod Dumping
 pub mod Pieces
 pub mod Patterns

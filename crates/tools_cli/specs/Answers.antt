@@ -11,6 +11,7 @@ use Rattle.tools_cli.specs.Lines.{line_of, no_memory_line}
 use Rattle.tool_io.specs.Ends.{End}
 use Rattle.tools_cli.specs.Ends.{Turn, Same, WritesFront, Tells}
 use Rattle.tools_cli.specs.SourceAnswers.{SourceAnswers}
+use Rattle.tools_cli.specs.DumpAnswers.{DumpAnswers}
 use Rattle.tools_cli.specs.RestoreAnswers.{RestoreAnswers}
 use Rattle.tools_cli.specs.ShowAnswers.{ShowAnswers}
 use Rattle.tools_cli.specs.UsageAnswers.{UsageAnswers}
@@ -18,6 +19,7 @@ use Rattle.tools_cli.specs.UsageAnswers.{UsageAnswers}
 -- what was done with the input, the output and, while the command ran, the report
 abbrev pub Says : Meaning → Status → Turn → Turn → Turn → Type 0
 Says (Ok (orders.Source order)) status input output report = SourceAnswers order status input output report
+Says (Ok orders.Dump) status input output report = DumpAnswers status input output report
 Says (Ok (orders.Restore order)) status input output report = RestoreAnswers order status input output report
 Says (Ok orders.Help) status input output report = ShowAnswers HELP.now status input output report
 Says (Ok orders.Version) status input output report = ShowAnswers VERSION.now status input output report
@@ -31,6 +33,8 @@ Reports is.Done report = Same report
 Reports (is.Usage at) report = Tells report (line_of (is.Usage at))
 Reports (is.BadSchedule line kind) report = Tells report (line_of (is.BadSchedule line kind))
 Reports (is.BadArchive f) report = Tells report (line_of (is.BadArchive f))
+Reports (is.Rolled start oldest) report = Tells report (line_of (is.Rolled start oldest))
+Reports (is.Renamed ts) report = Tells report (line_of (is.Renamed ts))
 Reports (is.NotRestored f) report = Tells report (line_of (is.NotRestored f))
 Reports is.ReadFault report = Tells report (line_of is.ReadFault)
 Reports is.WriteFault report = Tells report (line_of is.WriteFault)

@@ -5,6 +5,7 @@ pub mod Statuses
 pub mod Lines
 pub mod Answers
 pub mod SourceAnswers
+pub mod DumpAnswers
 pub mod RestoreAnswers
 pub mod ShowAnswers
 pub mod UsageAnswers

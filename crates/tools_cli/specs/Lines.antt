@@ -14,6 +14,8 @@ use Rattle.archive_format.specs.declared.fault.FormatFault.{FormatFault}
 use Rattle.archive_format.specs.declared.fault.FormatFault.TheVariants as faults
 use Rattle.schedule_text.specs.declared.fault.LineKind.{LineKind}
 use Rattle.schedule_text.specs.declared.fault.LineKind.TheVariants as line_kinds
+use Rattle.schedule_report.specs.Lines.{ts_text}
+use Rattle.schedule_dump.specs.Texts.{rolled_line, renamed_line}
 use Rattle.state_listing.specs.Listing.{name_text}
 use Rattle.restore_plan.specs.declared.fault.RestoreFault.{RestoreFault}
 use Rattle.restore_plan.specs.declared.fault.RestoreFault.TheVariants as restores
@@ -98,10 +100,6 @@ duplicate_line ns i a b = line (codes "duplicate key: " ++ index_text ns i ++ co
 abbrev pub parallel_line : NsName → List ℕ → Value → List ℕ
 parallel_line ns i a = line (codes "parallel arrays: " ++ index_text ns i ++ codes " " ++ id_text a)
 
--- seconds and ordinal
-abbrev pub ts_text : Ts → List ℕ
-ts_text ts = decimal ts.secs ++ codes ":" ++ decimal ts.inc
-
 abbrev pub no_id_text : NsName → List ℕ
 no_id_text ns = codes "no _id in " ++ quoted_name ns
 
@@ -135,6 +133,8 @@ line_of is.Done = []
 line_of (is.Usage at) = usage_line at
 line_of (is.BadSchedule number kind) = schedule_line number kind
 line_of (is.BadArchive f) = archive_line (format_text f)
+line_of (is.Rolled start oldest) = rolled_line start oldest
+line_of (is.Renamed ts) = renamed_line ts
 line_of (is.NotRestored f) = restore_line f
 line_of is.ReadFault = codes "read fault\n"
 line_of is.WriteFault = codes "write fault\n"

@@ -49,6 +49,8 @@ abbrev pub RestoreSays : RestoreOrder → Status → Turn → Turn → Type 0
 RestoreSays order is.Done input output = ReadsAll input × Lists order input output
 RestoreSays order (is.Usage at) input output = ⊥
 RestoreSays order (is.BadSchedule line kind) input output = ⊥
+RestoreSays order (is.Rolled start oldest) input output = ⊥
+RestoreSays order (is.Renamed ts) input output = ⊥
 RestoreSays order (is.BadArchive f) input output = Refused order.plan input (refuses f) × Same output
 RestoreSays order (is.NotRestored f) input output = Fails order.plan input f × Same output
 RestoreSays order is.ReadFault input output = Failed input × Unsettled order.plan input × Same output

@@ -1,6 +1,7 @@
 -- The numbers of the statuses, and which status is due.
 use Rattle.std.specs.Prelude.{⊤, ◌≡◌, ◌⊎◌, ℕ, List}
 use Rattle.bson_value.specs.declared.namespace.NsName.{NsName}
+use Rattle.bson_value.specs.declared.value.Ts.{Ts}
 use Rattle.bson_value.specs.declared.value.Value.{Value}
 use Rattle.archive_format.specs.declared.fault.FormatFault.{FormatFault}
 use Rattle.restore_plan.specs.declared.fault.RestoreFault.{RestoreFault}
@@ -25,6 +26,8 @@ code_of is.Done = 0
 code_of (is.Usage at) = 1
 code_of (is.BadSchedule line kind) = 2
 code_of (is.BadArchive f) = 3
+code_of (is.Rolled start oldest) = 4
+code_of (is.Renamed ts) = 5
 code_of (is.NotRestored f) = restore_code f
 code_of is.ReadFault = 9
 code_of is.WriteFault = 10
@@ -40,6 +43,8 @@ pub record Numbered (s : Status) : Type 0 where
   pub usage : code_of s ≡ 1 → (at : ℕ) × (s ≡ is.Usage at)
   pub bad_schedule : code_of s ≡ 2 → (line : ℕ) × (kind : LineKind) × (s ≡ is.BadSchedule line kind)
   pub bad_archive : code_of s ≡ 3 → ((f : FormatFault) × (s ≡ is.BadArchive f)) ⊎ IsFailure 3 s
+  pub rolled : code_of s ≡ 4 → (start : Ts) × (oldest : Ts) × (s ≡ is.Rolled start oldest)
+  pub renamed : code_of s ≡ 5 → (ts : Ts) × (s ≡ is.Renamed ts)
   pub duplicate_key : code_of s ≡ 6 → (ns : NsName) × (i : List ℕ) × (a : Value) × (b : Value) × (s ≡ is.NotRestored (faults.Duplicate ns i a b))
   pub parallel_arrays : code_of s ≡ 7 → (ns : NsName) × (i : List ℕ) × (a : Value) × (s ≡ is.NotRestored (faults.Parallel ns i a))
   pub unknown_operation : code_of s ≡ 8 → IsFailure 8 s

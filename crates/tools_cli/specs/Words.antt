@@ -37,11 +37,12 @@ Meaning = Result Order ℕ
 
 -- the first word of each command
 abbrev pub commands : List (List ℕ × Verb)
-commands = (codes "source", verbs.Source) ∷ (codes "restore", verbs.Restore) ∷ (codes "--help", verbs.Help) ∷ (codes "--version", verbs.Version) ∷ []
+commands = (codes "source", verbs.Source) ∷ (codes "dump", verbs.Dump) ∷ (codes "restore", verbs.Restore) ∷ (codes "--help", verbs.Help) ∷ (codes "--version", verbs.Version) ∷ []
 
 -- an option's word is its name and directly behind it a value
 abbrev pub name_of : OptionName → List ℕ
 name_of names.Archive = codes "--archive"
+name_of names.Oplog = codes "--oplog"
 name_of names.OplogReplay = codes "--oplogReplay"
 name_of names.OplogLimit = codes "--oplogLimit="
 name_of names.NsInclude = codes "--nsInclude="
@@ -56,6 +57,7 @@ row o k t = record { option = o; kind = k; times = t }
 -- the options that may stand behind a command, in any order
 abbrev pub options : Verb → List OptionRow
 options verbs.Source = row names.OplogLimit kinds.Moment times.Once ∷ row names.Form kinds.Form times.Once ∷ []
+options verbs.Dump = row names.Archive kinds.Nothing times.Once ∷ row names.Oplog kinds.Nothing times.Once ∷ []
 options verbs.Restore =
     row names.Archive kinds.Nothing times.Once
     ∷ row names.OplogReplay kinds.Nothing times.Once
@@ -72,6 +74,7 @@ options verbs.Version = []
 -- and what must hold of those that stand
 abbrev pub rules : Verb → List Rule
 rules verbs.Source = []
+rules verbs.Dump = must.Needed names.Archive ∷ must.Needed names.Oplog ∷ []
 rules verbs.Restore =
     must.Needed names.Archive
     ∷ must.Needs names.OplogLimit names.OplogReplay
@@ -166,6 +169,7 @@ form_of given = if list_any (λ g. is_hex g.value) given then forms.Hex else for
 
 abbrev pub order_of : Verb → List Given → Order
 order_of verbs.Source given = orders.Source (record { limit = limit_of given; form = form_of given })
+order_of verbs.Dump given = orders.Dump
 order_of verbs.Restore given = orders.Restore (record { plan = plan_of given; form = form_of given })
 order_of verbs.Help given = orders.Help
 order_of verbs.Version given = orders.Version

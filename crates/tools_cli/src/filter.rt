@@ -34,8 +34,11 @@ fn add(patterns: &mut Patterns, given: Given) -> Result<(), AllocError>
         OptionName::NsExclude => patterns.exclude.push(pattern),
         OptionName::NsFrom => patterns.from.push(pattern),
         OptionName::NsTo => patterns.to.push(pattern),
-        OptionName::Archive | OptionName::OplogReplay | OptionName::OplogLimit | OptionName::Form =>
-            Ok(()),
+        OptionName::Archive
+        | OptionName::Oplog
+        | OptionName::OplogReplay
+        | OptionName::OplogLimit
+        | OptionName::Form => Ok(()),
     }
 }
 

@@ -1,6 +1,7 @@
 //! The top call.
 #![tactic(auto)]
 
+mod dump;
 mod filter;
 mod listing;
 mod order;

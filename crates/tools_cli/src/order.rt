@@ -6,6 +6,7 @@ use restore_plan::Plan;
 #[derive(Debug, Drop)]
 pub enum Order {
     Source(SourceOrder),
+    Dump,
     Restore(RestoreOrder),
     Help,
     Version,

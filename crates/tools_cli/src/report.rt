@@ -3,7 +3,7 @@ ghost use Rattle.std.specs.Prelude.{◌≡◌, ◌⊎◌, ℕ, List, IfOk, strin
 ghost use Rattle.tools_cli.specs.Ends.{turn, Tells};
 ghost use Rattle.tools_cli.specs.Answers.{Told, RunsOut};
 ghost use Rattle.json_text.specs.Print.{quoted as quoted_string};
-ghost use Rattle.tools_cli.specs.Lines.{kind_text, quoted_name, sum_text, format_text, usage_line, line_kind_text, schedule_line, archive_line, no_id_text, metadata_text, ts_text, operation_text, unreadable_text, unknown_line, id_text, index_text, duplicate_line, parallel_line, restore_line, line_of};
+ghost use Rattle.tools_cli.specs.Lines.{kind_text, quoted_name, sum_text, format_text, usage_line, line_kind_text, schedule_line, archive_line, no_id_text, metadata_text, operation_text, unreadable_text, unknown_line, id_text, index_text, duplicate_line, parallel_line, restore_line, line_of};
 
 use crate::status::Status;
 use archive_format::FormatFault;
@@ -14,6 +14,7 @@ use extjson::tree_of;
 use json_text::print;
 use json_tree::Tree;
 use restore_plan::RestoreFault;
+use schedule_dump::{renamed_line, rolled_line, ts_text};
 use schedule_text::LineKind;
 use std::alloc::{AllocError, Global};
 use tool_io::{Fault, Sink};
@@ -130,15 +131,6 @@ fn archive_line(alloc: Global, text: Result<String, AllocError>) -> Result<Strin
 {
     let text = text?;
     format!(in alloc; "bad archive: {text}\n")
-}
-
-// Seconds and ordinal.
-fn ts_text(alloc: Global, ts: Ts) -> Result<String, AllocError>
-    ensures { IfOk result (λ s. string_bytes s ≡ ts_text ts) }
-{
-    let secs = ts.secs;
-    let inc = ts.inc;
-    format!(in alloc; "{secs}:{inc}")
 }
 
 // An operation of the oplog that isn't known.
@@ -300,6 +292,13 @@ pub fn tell<R: Sink>(alloc: Global, status: Status, report: &mut R) -> Status
         }
         Status::BadArchive(fault) => tell_format(alloc, fault, report),
         Status::NotRestored(fault) => tell_failure(alloc, fault, report),
+        Status::Rolled { start, oldest } => {
+            let text = rolled_line(alloc, start, oldest);
+            tell_text(report, text, Status::Rolled { start, oldest })
+        }
+        Status::Renamed { ts } => {
+            tell_text(report, renamed_line(alloc, ts), Status::Renamed { ts })
+        }
         Status::ReadFault => tell_line(report, b"read fault\n", Status::ReadFault),
         Status::WriteFault => tell_line(report, b"write fault\n", Status::WriteFault),
         Status::NoMemory => tell_line(report, b"no memory\n", Status::NoMemory),

@@ -2,6 +2,7 @@ ghost use Rattle.std.specs.Prelude.{◌≡◌};
 ghost use Rattle.tools_cli.specs.Statuses.{code_of, restore_code, NumbersTellApart};
 
 use archive_format::FormatFault;
+use bson_value::Ts;
 use restore_plan::RestoreFault;
 use schedule_text::LineKind;
 
@@ -17,6 +18,10 @@ pub enum Status {
     BadArchive(FormatFault),
     /// It is one that can't be restored.
     NotRestored(RestoreFault),
+    /// The oplog doesn't go back to the beginning of the dump any more.
+    Rolled { start: Ts, oldest: Ts },
+    /// A collection was renamed since the dump began. This was the last time.
+    Renamed { ts: Ts },
     ReadFault,
     WriteFault,
     NoMemory,
@@ -47,6 +52,8 @@ impl Status {
             Status::Usage { .. } => 1,
             Status::BadSchedule { .. } => 2,
             Status::BadArchive(_) => 3,
+            Status::Rolled { .. } => 4,
+            Status::Renamed { .. } => 5,
             Status::NotRestored(fault) => restore_code(fault),
             Status::ReadFault => 9,
             Status::WriteFault => 10,

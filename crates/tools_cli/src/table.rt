@@ -9,6 +9,7 @@ use crate::value::Kind;
 #[derive(Clone, Copy, Debug, PartialEq, Eq)]
 pub enum Verb {
     Source,
+    Dump,
     Restore,
     Help,
     Version,
@@ -18,6 +19,7 @@ pub enum Verb {
 #[derive(Clone, Copy, Debug, PartialEq, Eq)]
 pub enum OptionName {
     Archive,
+    Oplog,
     OplogReplay,
     OplogLimit,
     NsInclude,
@@ -65,6 +67,7 @@ impl OptionName {
     {
         match self {
             OptionName::Archive => "--archive",
+            OptionName::Oplog => "--oplog",
             OptionName::OplogReplay => "--oplogReplay",
             OptionName::OplogLimit => "--oplogLimit=",
             OptionName::NsInclude => "--nsInclude=",
@@ -90,6 +93,7 @@ impl Verb {
     {
         match word {
             "source" => Some(Verb::Source),
+            "dump" => Some(Verb::Dump),
             "restore" => Some(Verb::Restore),
             "--help" => Some(Verb::Help),
             "--version" => Some(Verb::Version),
@@ -111,6 +115,18 @@ impl Verb {
                 OptionRow {
                     option: OptionName::Form,
                     kind: Kind::Form,
+                    times: Times::Once,
+                },
+            ],
+            Verb::Dump => &[
+                OptionRow {
+                    option: OptionName::Archive,
+                    kind: Kind::Nothing,
+                    times: Times::Once,
+                },
+                OptionRow {
+                    option: OptionName::Oplog,
+                    kind: Kind::Nothing,
                     times: Times::Once,
                 },
             ],
@@ -165,6 +181,10 @@ impl Verb {
         ensures { result.now ≡ rules self }
     {
         match self {
+            Verb::Dump => &[
+                Rule::Needed(OptionName::Archive),
+                Rule::Needed(OptionName::Oplog),
+            ],
             Verb::Restore => &[
                 Rule::Needed(OptionName::Archive),
                 Rule::Needs(OptionName::OplogLimit, OptionName::OplogReplay),

@@ -2,6 +2,7 @@
 
 pub const HELP: &str = "\
 usage: suzhimanu source [OPTION..] < SCHEDULE
+       suzhimanu dump --archive --oplog < SCHEDULE > ARCHIVE
        suzhimanu restore --archive [OPTION..] < ARCHIVE
        suzhimanu --help
        suzhimanu --version
@@ -13,6 +14,12 @@ source  reads a schedule from standard input, runs its commands, tells each line
                   the run stops before the first write at this second and ordinal, 0 where none is given, or later
   --form=hex, --form=json
                   as those of restore
+
+dump  reads a schedule from standard input, runs its lines beside a dump of its collections, tells each line that is refused,
+        writes the archive of the dump, and tells its moments and how much it wrote
+
+  --archive       the output is an archive (needed)
+  --oplog         it has the entries that were recorded while it was made (needed)
 
 restore  reads an archive from standard input and lists what it restores
 

@@ -5,6 +5,7 @@ ghost use Rattle.tools_cli.specs.Ends.{turn};
 ghost use Rattle.tools_cli.specs.ShowAnswers.{Shown};
 ghost use Rattle.tools_cli.specs.Answers.{Says, Answers};
 
+use crate::dump::dump_source;
 use crate::listing::list_archive;
 use crate::order::Order;
 use crate::report::tell;
@@ -42,6 +43,7 @@ fn perform<S: Source, K: Sink, R: Sink>(
 {
     match order {
         Order::Source(order) => list_source(alloc, order, input, output, report),
+        Order::Dump => dump_source(alloc, input, output, report),
         Order::Restore(order) => list_archive(alloc, order, input, output),
         Order::Help => show(HELP, output),
         Order::Version => show(VERSION, output),

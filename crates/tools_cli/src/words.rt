@@ -176,6 +176,7 @@ fn order_of(alloc: Global, verb: Verb, given: Vec<Given>) -> Result<Order, Alloc
             limit: limit_of(&given),
             form: form_of(&given),
         })),
+        Verb::Dump => Ok(Order::Dump),
         Verb::Restore => {
             let form = form_of(&given);
             let limit = limit_of(&given);

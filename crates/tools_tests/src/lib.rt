@@ -2,6 +2,8 @@
 #![tactic(auto)]
 
 #[cfg(test)]
+mod dump;
+#[cfg(test)]
 mod failing_ends;
 #[cfg(test)]
 mod refusals;

@@ -4,7 +4,7 @@ use Rattle.tools_cli.specs.declared.order.Order.{Order}
 use Rattle.tools_cli.specs.declared.texts.TheConstants.{HELP}
 use Rattle.tools_cli.specs.Ends.{turn}
 use Rattle.tools_cli.specs.Answers.{Says}
-use Rattle.tools_cli.proofs.Due.{source_says, restore_says, show_says}
+use Rattle.tools_cli.proofs.Due.{source_says, dump_says, restore_says, show_says}
 use Rattle.tools_cli.proofs.top.perform.Goals as goal
 
 pub returns-in-Source : goal.returns-in-Source
@@ -14,6 +14,14 @@ returns-in-Source g c =
     let report = turn (g.R.Sink.end c.args.report.now) (g.R.Sink.end c.list_source.new.report) in
     let P : Order → Type 0 = λ order. Says (Ok order) c.list_source.result input output report in
     subst P (sym c.in-Source.is) (source_says c.in-Source.order c.list_source.result input output report c.list_source.ensures)
+
+pub returns-in-Dump : goal.returns-in-Dump
+returns-in-Dump g c =
+    let input = turn (g.S.Source.end c.args.input.now) (g.S.Source.end c.dump_source.new.input) in
+    let output = turn (g.K.Sink.end c.args.output.now) (g.K.Sink.end c.dump_source.new.output) in
+    let report = turn (g.R.Sink.end c.args.report.now) (g.R.Sink.end c.dump_source.new.report) in
+    let P : Order → Type 0 = λ order. Says (Ok order) c.dump_source.result input output report in
+    subst P (sym c.in-Dump.is) (dump_says c.dump_source.result input output report c.dump_source.ensures)
 
 pub returns-in-Restore : goal.returns-in-Restore
 returns-in-Restore g c =

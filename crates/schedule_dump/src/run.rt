@@ -1,0 +1,78 @@
+//! The whole run.
+ghost use Rattle.std.specs.Prelude.{◌≤◌, ℕ, List, Option, map as each, IsErrOf};
+ghost use Rattle.tool_io.specs.Causes.{Rose};
+ghost use Rattle.history_model.specs.WellFormed.{AreWellFormedLines};
+ghost use Rattle.history_model.specs.Runs.{Schedule as Model};
+ghost use Rattle.schedule_report.specs.Schedules.{schedule_in, numbered};
+ghost use Rattle.schedule_dump.specs.Progress.{Starts, ends};
+ghost use Rattle.schedule_dump.specs.Outcomes.{Comes};
+
+use crate::fault::{RunFault, fault_of};
+use crate::start::run_up_to_start;
+use crate::step::run_beside;
+use crate::well_formed::lines_are_well_formed;
+use dump_run::{Dump, DumpReport};
+use history_model::{done_is_healed_before, window_stands};
+use schedule_text::{NumberedLine, Schedule};
+use std::alloc::Global;
+use store_core::Store;
+use tool_io::Sink;
+
+// Starts the dump, runs these lines beside it, and does what is left of it.
+fn dump_beside<K: Sink, R: Sink>(
+    alloc: Global,
+    mut store: Store,
+    lines: &[NumberedLine],
+    output: &mut K,
+    report: &mut R,
+) -> Result<DumpReport, RunFault>
+    ensures comes { (s : Model) → (first : Option (List ℕ)) → AreWellFormedLines s.lines → Starts s store (each numbered lines.now) first (R.end report.old).bytes → Comes result s (record { output = (K.end output.old).bytes; report = first }) (ends (K.end output.new) (R.end report.new)) }
+    ensures written { (K.end output.old).faults ≤ (K.end output.new).faults }
+    ensures told { (R.end report.old).faults ≤ (R.end report.new).faults }
+    ensures output { (s : Model) → (first : Option (List ℕ)) → Starts s store (each numbered lines.now) first (R.end report.old).bytes → IsErrOf result RunFault.OutputFault → Rose (K.end output.old).faults (K.end output.new).faults }
+    ensures report { IsErrOf result RunFault.ReportFault → Rose (R.end report.old).faults (R.end report.new).faults }
+{
+    done_is_healed_before();
+    let mut dump = match Dump::start(alloc, &store, output) {
+        Ok(dump) => dump,
+        Err(fault) => return Err(fault_of(fault)),
+    };
+    match run_beside(alloc, &mut store, &mut dump, lines, output, report) {
+        Ok(()) => {}
+        Err(fault) => return Err(fault),
+    }
+    match dump.finish(&store, output) {
+        Ok(report) => Ok(report),
+        Err(fault) => Err(fault_of(fault)),
+    }
+}
+
+/// Runs the lines of a schedule, and writes the archive of the dump that it makes. The dump starts with the first line `dump`, or
+/// behind the last line where there is none; behind the last line what is left of it is done. Each line that is refused is told
+/// at once. A step of the dump that fails ends the run.
+pub fn dump<K: Sink, R: Sink>(
+    alloc: Global,
+    schedule: &Schedule,
+    output: &mut K,
+    report: &mut R,
+) -> Result<DumpReport, RunFault>
+    requires least { 1 ≤ schedule.now.cap }
+    requires most { schedule.now.cap ≤ 1000000 }
+    ensures comes { Comes result (schedule_in schedule.now) (ends (K.end output.old) (R.end report.old)) (ends (K.end output.new) (R.end report.new)) }
+    ensures written { (K.end output.old).faults ≤ (K.end output.new).faults }
+    ensures told { (R.end report.old).faults ≤ (R.end report.new).faults }
+    ensures output { IsErrOf result RunFault.OutputFault → Rose (K.end output.old).faults (K.end output.new).faults }
+    ensures report { IsErrOf result RunFault.ReportFault → Rose (R.end report.old).faults (R.end report.new).faults }
+{
+    window_stands();
+    let lines = schedule.lines.as_slice();
+    lines_are_well_formed(lines);
+    let mut store = match Store::new(alloc, schedule.cap, schedule.bytes) {
+        Ok(store) => store,
+        Err(_) => return Err(RunFault::NoMemory),
+    };
+    match run_up_to_start(alloc, &mut store, lines, report) {
+        Ok(rest) => dump_beside(alloc, store, rest, output, report),
+        Err(fault) => Err(fault),
+    }
+}
