@@ -35,14 +35,13 @@ fn calls(alloc: Global, call: Option<u64>) -> Result<Vec<u64>, Fail> {
     Ok(calls)
 }
 
-/// The call of these words, with an input that comes in pieces: seven bytes at a time, where it isn't long.
+/// The call of these words, with an input that comes seven bytes at a time.
 pub fn call(alloc: Global, words: &[&str], input: &[u8], fails: Fails) -> Result<Ended, Fail> {
     let mut owned = Vec::new(alloc);
     for word in words {
         owned.push(String::from_str(alloc, word)?)?;
     }
-    let piece = if input.len() < 10_000 { 7 } else { 65_536 };
-    let pieces = vec![in alloc; piece]?;
+    let pieces = vec![in alloc; 7]?;
     let mut input = MemSource::new(input.to_vec(alloc)?, pieces, calls(alloc, fails.read)?);
     let mut output = MemSink::new(alloc, calls(alloc, fails.output)?);
     let mut report = MemSink::new(alloc, calls(alloc, fails.report)?);

@@ -4,8 +4,14 @@
 #[cfg(test)]
 mod call;
 #[cfg(test)]
+mod dumped;
+#[cfg(test)]
+mod failing_ends;
+#[cfg(test)]
+mod healed;
+#[cfg(test)]
+mod sources;
+#[cfg(test)]
 mod steps;
 #[cfg(test)]
 mod store;
-#[cfg(test)]
-mod sources;

@@ -137,26 +137,3 @@ fn schedules_are_listed(rt: HostRuntime) -> Result<(), Fail> {
     }
     Ok(())
 }
-
-// Two documents of nine million letters each, in one transaction.
-fn large(alloc: Global) -> Result<Vec<u8>, Fail> {
-    let letters = vec![in alloc; b'x'; 9_000_000]?;
-    let mut text = Vec::new(alloc);
-    text.extend_from_slice(b"create s.c\nbegin\n")?;
-    for front in [b"insert s.c {\"_id\":1,\"t\":\"".as_slice(), b"insert s.c {\"_id\":2,\"t\":\"".as_slice()] {
-        text.extend_from_slice(front)?;
-        text.extend_from_slice(&letters)?;
-        text.extend_from_slice(b"\"}\n")?;
-    }
-    text.extend_from_slice(b"commit\n")?;
-    Ok(text)
-}
-
-#[test]
-fn a_transaction_that_is_too_large(rt: HostRuntime) -> Result<(), Fail> {
-    let alloc = rt.alloc();
-    let ended = call(alloc, &["source"], &large(alloc)?, NO_FAILS)?;
-    assert_eq!(rt; ended.report.written(), b"line 5 refused TooLarge\n".as_slice());
-    assert_eq!(rt; ended.output.written(), b"collection \"s.c\" 0\noptions {}\n".as_slice());
-    Ok(())
-}

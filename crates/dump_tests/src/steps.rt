@@ -39,7 +39,8 @@ fn written(alloc: Global, steps: &[u32], finishes: bool) -> Result<MemSink, Fail
     let mut sink = sink(alloc);
     let mut dump = Dump::start(alloc, &store, &mut sink).map_err(|_| "no dump")?;
     for step in steps {
-        dump.copy(&store, &ns, *step, &mut sink).map_err(|_| "no copy")?;
+        dump.copy(&store, &ns, *step, &mut sink)
+            .map_err(|_| "no copy")?;
     }
     if finishes {
         let _ = dump.finish(&store, &mut sink).map_err(|_| "no end")?;
@@ -51,9 +52,19 @@ fn written(alloc: Global, steps: &[u32], finishes: bool) -> Result<MemSink, Fail
 fn what_is_copied_is_restored(rt: HostRuntime) -> Result<(), Fail> {
     let alloc = rt.alloc();
     let source = call(alloc, &["source"], COMMANDS.as_bytes(), NO_FAILS)?;
-    for steps in [[5].as_slice(), [1, 1, 5].as_slice(), [3].as_slice(), [].as_slice()] {
+    for steps in [
+        [5].as_slice(),
+        [1, 1, 5].as_slice(),
+        [3].as_slice(),
+        [].as_slice(),
+    ] {
         let archive = written(alloc, steps, true)?;
-        let restore = call(alloc, &["restore", "--archive"], archive.written(), NO_FAILS)?;
+        let restore = call(
+            alloc,
+            &["restore", "--archive"],
+            archive.written(),
+            NO_FAILS,
+        )?;
         assert_eq!(rt; restore.status, 0);
         assert_eq!(rt; restore.output.written(), source.output.written());
     }
@@ -64,7 +75,12 @@ fn what_is_copied_is_restored(rt: HostRuntime) -> Result<(), Fail> {
 fn a_copy_that_has_not_ended(rt: HostRuntime) -> Result<(), Fail> {
     let alloc = rt.alloc();
     let archive = written(alloc, &[3], false)?;
-    let restore = call(alloc, &["restore", "--archive"], archive.written(), NO_FAILS)?;
+    let restore = call(
+        alloc,
+        &["restore", "--archive"],
+        archive.written(),
+        NO_FAILS,
+    )?;
     assert_eq!(rt; restore.status, 3);
     assert_eq!(rt;
         restore.report.written(),
@@ -81,7 +97,10 @@ fn a_copy_behind_the_end_is_refused(rt: HostRuntime) -> Result<(), Fail> {
     let mut dump = Dump::start(alloc, &store, &mut sink).map_err(|_| "no dump")?;
     assert_eq!(rt; dump.copy(&store, &ns, 5, &mut sink), Ok(()));
     let size = sink.written().len();
-    assert_eq!(rt; dump.copy(&store, &ns, 5, &mut sink), Err(DumpFault::NoCursor));
+    assert_eq!(rt;
+        dump.copy(&store, &ns, 5, &mut sink),
+        Err(DumpFault::NoCursor)
+    );
     assert_eq!(rt; dump.tail(&store, 5, &mut sink), Err(DumpFault::NotNow));
     assert_eq!(rt; sink.written().len(), size);
     assert_eq!(rt; dump.mark(&store), Ok(()));
@@ -114,9 +133,15 @@ fn a_dump_that_failed_stays_so(rt: HostRuntime) -> Result<(), Fail> {
     let mut sink = MemSink::new(alloc, fails);
     let mut dump = Dump::start(alloc, &store, &mut sink).map_err(|_| "no dump")?;
     let size = sink.written().len();
-    assert_eq!(rt; dump.copy(&store, &ns, 5, &mut sink), Err(DumpFault::WriteFault));
+    assert_eq!(rt;
+        dump.copy(&store, &ns, 5, &mut sink),
+        Err(DumpFault::WriteFault)
+    );
     assert_eq!(rt; dump.failed(), Some(DumpFault::WriteFault));
-    assert_eq!(rt; dump.copy(&store, &ns, 5, &mut sink), Err(DumpFault::WriteFault));
+    assert_eq!(rt;
+        dump.copy(&store, &ns, 5, &mut sink),
+        Err(DumpFault::WriteFault)
+    );
     assert_eq!(rt; dump.mark(&store), Err(DumpFault::WriteFault));
     assert_eq!(rt; sink.written().len(), size);
     Ok(())

@@ -39,7 +39,11 @@ fn entries(rt: &impl Abort, alloc: Global, store: &mut Store, line: &str) -> Res
     assert_eq!(rt; checked, applied, "{line}");
     match applied {
         Ok(count) => {
-            assert_eq!(rt; store.recorded(), before.saturating_add(u64::from(count)), "{line}");
+            assert_eq!(rt;
+                store.recorded(),
+                before.saturating_add(u64::from(count)),
+                "{line}"
+            );
             Ok(count)
         }
         Err(_) => Ok(99),
@@ -57,7 +61,10 @@ fn commands_record_entries(rt: HostRuntime) -> Result<(), Fail> {
         ("replace s.c {\"_id\":1}", 0),
         ("replace s.c {\"_id\":1,\"v\":1}", 1),
         ("update s.c {\"_id\":1,\"$set\":{\"v\":2}}", 1),
-        ("begin\ninsert s.c {\"_id\":2}\ndelete s.c {\"_id\":2}\ncommit", 1),
+        (
+            "begin\ninsert s.c {\"_id\":2}\ndelete s.c {\"_id\":2}\ncommit",
+            1,
+        ),
         ("at 7", 0),
         ("createIndex s.c {\"key\":{\"v\":1},\"name\":\"v_1\"}", 1),
         ("dropIndex s.c v_1", 1),
@@ -90,9 +97,18 @@ fn a_collection_is_made_alone(rt: HostRuntime) -> Result<(), Fail> {
 
 // A cursor over three documents, of which this many are read at each step: how many documents each step gave, and whether
 // it ended the cursor.
-fn steps(rt: &impl Abort, alloc: Global, sizes: &[u32], expected: &[(usize, bool)]) -> Result<(), Fail> {
+fn steps(
+    rt: &impl Abort,
+    alloc: Global,
+    sizes: &[u32],
+    expected: &[(usize, bool)],
+) -> Result<(), Fail> {
     let mut store = Store::new(alloc, 10, None)?;
-    for line in ["insert s.c {\"_id\":1}", "insert s.c {\"_id\":2}", "insert s.c {\"_id\":3}"] {
+    for line in [
+        "insert s.c {\"_id\":1}",
+        "insert s.c {\"_id\":2}",
+        "insert s.c {\"_id\":3}",
+    ] {
         let _ = apply(&mut store, &read(alloc, line)?)?;
     }
     let ns = NsName::split(alloc, "s.c")?.ok_or("no name")?;

@@ -2,8 +2,6 @@
 #![tactic(auto)]
 
 #[cfg(test)]
-mod dump;
-#[cfg(test)]
 mod failing_ends;
 #[cfg(test)]
 mod refusals;
