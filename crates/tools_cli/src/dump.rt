@@ -1,5 +1,6 @@
 //! The dump of a store beside which a schedule runs.
 ghost use Rattle.std.specs.Prelude.{◌≤◌};
+ghost use Rattle.schedule_report.specs.Schedules.{schedule_in};
 ghost use Rattle.tools_cli.specs.Ends.{turn};
 ghost use Rattle.tools_cli.specs.DumpAnswers.{ScheduleSays, DumpSays};
 
@@ -19,7 +20,7 @@ fn dump_schedule<K: Sink, R: Sink>(
 ) -> Status
     requires least { 1 ≤ schedule.now.cap }
     requires most { schedule.now.cap ≤ 1000000 }
-    ensures { ScheduleSays schedule.now result
+    ensures { ScheduleSays (schedule_in schedule.now) result
         (turn (K.end output.old) (K.end output.new))
         (turn (R.end report.old) (R.end report.new)) }
 {
