@@ -1,0 +1,7 @@
+pub mod Totals
+pub mod Works
+pub mod Scans
+pub mod Readings
+pub mod Lines
+pub mod Pieces
+pub mod Lengths
