@@ -1,7 +1,9 @@
-pub mod Totals
-pub mod Works
-pub mod Scans
-pub mod Readings
-pub mod Lines
-pub mod Pieces
-pub mod Lengths
+mod Totals
+mod Works
+mod Scans
+mod Readings
+mod Sizes
+mod Commands
+mod Ends
+mod Pieces
+mod Lengths

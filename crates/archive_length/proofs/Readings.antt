@@ -1,5 +1,5 @@
 -- The documents that the steps of a dump read are no more than the writes that were made.
-use Rattle.std.proofs.Common.{◌≡◌, ℕ, zero, suc, ◌+◌, ◌≤◌, ◌<◌, List, [], ◌∷◌, ◌++◌, length, Bool, true, false, cond, not, refl, sym, ap, ◌∙◌, subst, arith, Option, Some, None, Result, Ok, Err, inl, inr}
+use Rattle.std.proofs.Common.{◌≡◌, ℕ, ◌+◌, ◌≤◌, ◌<◌, List, [], ◌∷◌, ◌++◌, length, Bool, true, false, not, refl, sym, ap, ◌∙◌, subst, arith, Option, Some, None, Result, Ok, Err, inl, inr}
 use Rattle.std.specs.Prelude.{⊤, ◌⊎◌, ◌||◌, is_some, nat_le, take, drop}
 use Rattle.std.specs.Option.{option_map}
 use Rattle.std.specs.FinMap as map
@@ -9,7 +9,7 @@ use Rattle.bson_value.specs.declared.value.Ts.{Ts}
 use Rattle.state_model.specs.Keys.{same_ns}
 use Rattle.state_model.proofs.Keys.{ns_is}
 use Rattle.state_model.proofs.Maps.{ns_insert_here, ns_insert_else}
-use Rattle.coll_state.specs.Rows.{Row, Table, Rows, AreSound, IsSound}
+use Rattle.coll_state.specs.Rows.{Row, Table, Rows, AreSound}
 use Rattle.coll_state.specs.Changes.{no_rows}
 use Rattle.copy_model.specs.Cursors.{Cursor}
 use Rattle.copy_model.specs.Copies.{begun, cursors_of}
@@ -23,15 +23,13 @@ use Rattle.history_model.specs.Stages.{Caps, Stage, Made}
 use Rattle.history_model.specs.Commands.{applied}
 use Rattle.history_model.specs.Entries.{OplogEntry}
 use Rattle.history_model.specs.Runs.{Schedule, Run, Refusal, NotNow, NoCursor, DumpState, Outcome, Done, Renamed, Rolled, Step, Documents, Entries, first_dump_state, started, looked, all_ended, with_cursor, read_on, copied_by, copied, renamed_since, rolled_or, rolled, marked_by, marked, window, entries_from, is_gone, sent_on, tailed_to, tailed, still, in_dump, dumped, commanded, on_line, or_refused, after_line, after_lines, run}
-use Rattle.history_model.specs.Histories.{documents_in, reads, outcome}
-use Rattle.history_model.specs.Recordings.{rows_of_made}
+use Rattle.history_model.specs.Histories.{documents_in, reads}
 use Rattle.history_model.specs.Invariants.{RunOk}
 use Rattle.history_model.specs.WellFormed.{IsWellFormedCommand, IsWellFormedLine, AreWellFormedLines}
-use Rattle.history_model.specs.Laws.{StartedOn}
 use Rattle.history_model.proofs.Modelled.{taken_made}
 use Rattle.history_model.proofs.Runs.{lines_good}
 use Rattle.history_model.proofs.WholeRun.{run_started}
-use Rattle.archive_length.proofs.Totals.{Weight, at, sum, total_less, sum_lost}
+use Rattle.archive_length.proofs.Totals.{Weight, sum, total_less, sum_lost}
 use Rattle.archive_length.proofs.Works.{IsWeight, work_made, work_join, rows_sum, made_add, nothing_sum}
 use Rattle.archive_length.proofs.Scans.{Cursors, left_of, left_in, left_most, AreOld, left_weight, Looked, looks, put_length, drop_length}
 

@@ -1,12 +1,12 @@
 -- What the cursors of a dump have left to read.
-use Rattle.std.proofs.Common.{◌≡◌, ℕ, zero, suc, ◌+◌, ◌≤◌, ◌<◌, List, [], ◌∷◌, length, Bool, true, false, cond, refl, sym, ap, ◌∙◌, subst, arith, Option, Some, None, inl, inr}
-use Rattle.std.specs.Prelude.{⊤, ◌⊎◌, ◌==◌, nat_lt}
+use Rattle.std.proofs.Common.{◌≡◌, ℕ, zero, suc, ◌+◌, ◌≤◌, ◌<◌, List, [], ◌∷◌, length, Bool, true, false, cond, refl, sym, ap, ◌∙◌, subst, arith, Option, Some, None}
+use Rattle.std.specs.Prelude.{⊤, ◌==◌, nat_lt}
 use Rattle.std.specs.FinMap as map
-use Rattle.std.proofs.lemmas.Bool.{cases_Bool, ltb-true, ltb-false, le-ltb, lt-ltb}
+use Rattle.std.proofs.lemmas.Bool.{ltb-true, ltb-false, le-ltb, lt-ltb}
 use Rattle.bson_value.specs.declared.namespace.NsName.{NsName}
 use Rattle.bson_value.specs.NamespaceOrder.{namespace_cmp}
 use Rattle.json_tree.specs.declared.tree.Tree.{Tree}
-use Rattle.state_model.specs.Keys.{Key, same_key, same_ns}
+use Rattle.state_model.specs.Keys.{Key, same_key}
 use Rattle.coll_state.specs.Rows.{Document as Fields, Row, Table, Rising, last_no, IsSound, scan}
 use Rattle.coll_state.specs.Changes.{put_row, drop_row, put_table, drop_table, with_incarnation, put_index, take_index}
 use Rattle.copy_model.specs.Cursors.{Cursor}
@@ -62,14 +62,14 @@ less_behind a b (r ∷ rs) h = by (nat_lt a r.no) (nat_lt b r.no) refl refl (les
     by false true p q g = (let u = ltb-true b r.no q in let v = ltb-false a r.no p in absurd (omega (arith, u, v, h)))
     by false false p q g = omega (arith, g)
 
--- a scan from a lower number reads what is behind its last row no more, and the last row isn't before where it began
-record Scanned (at n low : ℕ) (rs : List Row) : Type 0 where
+-- a scan ends no further back than it began, and what it read is behind its end no more
+record Scanned (at n : ℕ) (rs : List Row) : Type 0 where
   above : at ≤ last_no at (scan at n rs)
   read : behind (last_no at (scan at n rs)) rs + length (scan at n rs) ≤ behind at rs
 
-nothing_read : (at low : ℕ) (rs : List Row) → Scanned at 0 low rs
-nothing_read at low [] = record { above = omega arith; read = omega arith }
-nothing_read at low (r ∷ rs) = record { above = omega arith; read = omega arith }
+nothing_read : (at : ℕ) (rs : List Row) → Scanned at 0 rs
+nothing_read at [] = record { above = omega arith; read = omega arith }
+nothing_read at (r ∷ rs) = record { above = omega arith; read = omega arith }
 
 -- behind a row that was read the scan is one from its number
 scan_from : (at n low : ℕ) (rs : List Row) → Rising low rs → at ≤ low → scan at n rs ≡ scan low n rs
@@ -83,18 +83,18 @@ scan_from at (suc n) low (r ∷ rs) h g =
     ∙ (ap (λ (z : List Row). r ∷ z) (scan_from at n r.no rs h.2 (omega (arith, h.0)) ∙ sym (scan_from low n r.no rs h.2 (omega (arith, h.0))))
     ∙ sym (ap (λ (x : Bool). cond x (r ∷ scan low n rs) (scan low (suc n) rs)) b))
 
-scanned : (at n low : ℕ) (rs : List Row) → Rising low rs → Scanned at n low rs
-scanned at zero low rs h = nothing_read at low rs
+scanned : (at n low : ℕ) (rs : List Row) → Rising low rs → Scanned at n rs
+scanned at zero low rs h = nothing_read at rs
 scanned at (suc n) low [] h = record { above = omega arith; read = omega arith }
 scanned at (suc n) low (r ∷ rs) h = by (nat_lt at r.no) refl (scanned r.no n r.no rs h.2) (scanned at (suc n) r.no rs h.2)
   where
     Is : List Row → Type 0
     Is z = (at ≤ last_no at z) × (behind (last_no at z) (r ∷ rs) + length z ≤ behind at (r ∷ rs))
 
-    whole : Is (scan at (suc n) (r ∷ rs)) → Scanned at (suc n) low (r ∷ rs)
+    whole : Is (scan at (suc n) (r ∷ rs)) → Scanned at (suc n) (r ∷ rs)
     whole x = record { above = x.0; read = x.1 }
 
-    by : (b : Bool) → nat_lt at r.no ≡ b → Scanned r.no n r.no rs → Scanned at (suc n) r.no rs → Scanned at (suc n) low (r ∷ rs)
+    by : (b : Bool) → nat_lt at r.no ≡ b → Scanned r.no n rs → Scanned at (suc n) rs → Scanned at (suc n) (r ∷ rs)
     by true e s z =
         whole (subst (λ (x : Bool). Is (cond x (r ∷ scan at n rs) (scan at (suc n) rs))) (sym e)
         (let same = scan_from at n r.no rs h.2 (let x = ltb-true at r.no e in omega (arith, x)) in
@@ -215,7 +215,7 @@ pub looks : (k : ℕ) (c : Cursor) (o : Option Table) → GoodTable o → Looked
 looks k c None h = record { same = refl; no_more = λ t. omega arith; less = λ t e. absurd cc; none = λ e. refl }
 looks k c (Some u) h = by (u.incarnation == c.incarnation) refl
   where
-    s : Scanned c.position k 0 u.rows
+    s : Scanned c.position k u.rows
     s = scanned c.position k 0 u.rows h.0
 
     by : (b : Bool) → (u.incarnation == c.incarnation) ≡ b → Looked k c (Some u)

@@ -1,12 +1,9 @@
 -- Sums over the collections of a map.
-use Rattle.std.proofs.Common.{◌≡◌, ℕ, ◌+◌, ◌≤◌, List, [], ◌∷◌, Bool, true, false, cond, not, refl, sym, ap, ◌∙◌, subst, arith, Option, Some, None, inl, inr}
-use Rattle.std.specs.Prelude.{◌⊎◌}
-use Rattle.std.specs.Ordering.{eq_by_cmp}
+use Rattle.std.proofs.Common.{◌≡◌, ℕ, ◌+◌, ◌≤◌, List, [], ◌∷◌, Bool, true, false, cond, not, refl, sym, ap, ◌∙◌, subst, arith, Option, Some, None}
 use Rattle.std.specs.declared.cmp.Ordering.{Ordering}
 use Rattle.std.specs.declared.cmp.Ordering.TheVariants.{Less, Equal, Greater}
 use Rattle.std.specs.FinMap as map
 use Rattle.std.specs.FinMap.Entries.{by_order, where_key, put, is_sorted-where_key, find-where_key}
-use Rattle.std.proofs.lemmas.Bool.{cases_Bool}
 use Rattle.bson_value.specs.declared.namespace.NsName.{NsName}
 use Rattle.bson_value.specs.NamespaceOrder.{namespace_cmp}
 use Rattle.state_model.specs.Keys.{same_ns}
@@ -88,8 +85,8 @@ retained_entries m p =
     let alike = λ (q x : NsName) (e : namespace_cmp q x ≡ Equal). ap p (sym (ns_anti q x e)) in
     let sorted = is_sorted-where_key namespace_cmp p es (map.entries_sorted m) in
     ap map.entries (ns_map_same (map.retain_keys m p) (map.from_sorted (where_key namespace_cmp p es)) (λ q.
-        map.get-retain_keys m p q (alike q) ∙ (ap (λ (o : Option _). cond (p q) o None) (map.get-entries m q)
-        ∙ (sym (find-where_key namespace_cmp p q (alike q) es) ∙ sym (map.get-from_sorted namespace_cmp (where_key namespace_cmp p es) q sorted)))))
+    map.get-retain_keys m p q (alike q) ∙ (ap (λ (o : Option _). cond (p q) o None) (map.get-entries m q)
+    ∙ (sym (find-where_key namespace_cmp p q (alike q) es) ∙ sym (map.get-from_sorted namespace_cmp (where_key namespace_cmp p es) q sorted)))))
     ∙ map.entries-from_sorted namespace_cmp (where_key namespace_cmp p es) sorted
 
 pub retained_sum : {X : Type 0} (w : Weight X) (m : map.FinMap namespace_cmp X) (p : NsName → Bool) → sum w (map.retain_keys m p) ≤ sum w m
@@ -98,7 +95,7 @@ retained_sum w m p = subst (λ (es : List _). total w es ≤ sum w m) (sym (reta
 removed_is : {X : Type 0} (m : map.FinMap namespace_cmp X) (k : NsName) → map.remove m k ≡ map.retain_keys m (other k)
 removed_is m k =
     ns_map_same (map.remove m k) (map.retain_keys m (other k)) (λ q.
-        ns_at_remove m k q ∙ (turned (same_ns q k) (map.get m q) ∙ sym (map.get-retain_keys m (other k) q (λ x e. ap (other k) (sym (ns_anti q x e))))))
+    ns_at_remove m k q ∙ (turned (same_ns q k) (map.get m q) ∙ sym (map.get-retain_keys m (other k) q (λ x e. ap (other k) (sym (ns_anti q x e))))))
   where
     turned : {Y : Type 0} (b : Bool) (o : Option Y) → cond b None o ≡ cond (not b) o None
     turned true o = refl
@@ -112,9 +109,9 @@ removed_sum w m k =
 pub inserted_sum : {X : Type 0} (w : Weight X) (m : map.FinMap namespace_cmp X) (k : NsName) (v : X) → sum w (map.insert m k v) ≤ sum w m + w k v
 inserted_sum w m k v = subst (λ (es : List _). total w es ≤ sum w m + w k v) (sym (map.entries-insert ns_total m k v)) (put_total w k v (map.entries m))
 
--- in the place of another
-twice : {X : Type 0} (m : map.FinMap namespace_cmp X) (k : NsName) (v : X) → map.insert m k v ≡ map.insert (map.remove m k) k v
-twice m k v = ns_map_same (map.insert m k v) (map.insert (map.remove m k) k v) (λ q. ns_at_insert m k v q ∙ (by (same_ns q k) (map.get m q) ∙ sym (ns_at_insert (map.remove m k) k v q ∙ ap (cond (same_ns q k) (Some v)) (ns_at_remove m k q))))
+-- what is inserted under a name is inserted where it was removed
+renewed : {X : Type 0} (m : map.FinMap namespace_cmp X) (k : NsName) (v : X) → map.insert m k v ≡ map.insert (map.remove m k) k v
+renewed m k v = ns_map_same (map.insert m k v) (map.insert (map.remove m k) k v) (λ q. ns_at_insert m k v q ∙ (by (same_ns q k) (map.get m q) ∙ sym (ns_at_insert (map.remove m k) k v q ∙ ap (cond (same_ns q k) (Some v)) (ns_at_remove m k q))))
   where
     by : (b : Bool) (o : Option _) → cond b (Some v) o ≡ cond b (Some v) (cond b None o)
     by true o = refl
@@ -124,4 +121,4 @@ pub replaced_sum : {X : Type 0} (w : Weight X) (m : map.FinMap namespace_cmp X) 
 replaced_sum w m k v =
     let a = removed_sum w m k in
     let b = inserted_sum w (map.remove m k) k v in
-    subst (λ (z : map.FinMap namespace_cmp _). sum w z + at w k (map.get m k) ≤ sum w m + w k v) (sym (twice m k v)) (omega (arith, a, b))
+    subst (λ (z : map.FinMap namespace_cmp _). sum w z + at w k (map.get m k) ≤ sum w m + w k v) (sym (renewed m k v)) (omega (arith, a, b))

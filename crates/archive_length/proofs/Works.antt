@@ -1,5 +1,5 @@
 -- How many writes there are in what is made, and how much they add to a state and to rows.
-use Rattle.std.proofs.Common.{◌≡◌, ℕ, zero, suc, ◌+◌, ◌*◌, ◌≤◌, List, [], ◌∷◌, ◌++◌, length, Bool, true, false, cond, not, refl, sym, ap, ◌∙◌, subst, arith, Option, Some, None}
+use Rattle.std.proofs.Common.{◌≡◌, ℕ, suc, ◌+◌, ◌≤◌, List, [], ◌∷◌, ◌++◌, length, Bool, true, false, cond, not, refl, sym, ◌∙◌, arith, Option, Some, None}
 use Rattle.std.specs.Prelude.{filter}
 use Rattle.std.specs.FinMap as map
 use Rattle.bson_value.specs.declared.namespace.NsName.{NsName}
@@ -8,7 +8,7 @@ use Rattle.bson_value.specs.NamespaceOrder.{namespace_cmp}
 use Rattle.json_tree.specs.declared.tree.Tree.{Tree}
 use Rattle.state_model.specs.Keys.{Key, same_key}
 use Rattle.state_model.specs.States.{State, Collection, no_options}
-use Rattle.state_model.specs.Replay.{on_there, put_document, remove_document, add_index, drop_index}
+use Rattle.state_model.specs.Replay.{on_there, remove_document, add_index, drop_index}
 use Rattle.coll_state.specs.Rows.{Document as Fields, Table, Rows}
 use Rattle.coll_state.specs.Changes.{put_table, drop_table, fresh_table, with_incarnation, no_rows, put_index, take_index}
 use Rattle.coll_state.specs.Changes as rows

@@ -3,7 +3,7 @@ use Rattle.history_model.specs.Runs.{run}
 use Rattle.schedule_report.specs.Schedules.{schedule_in}
 use Rattle.dump_steps.proofs.DumpRuns.{lines_formed}
 use Rattle.dump_content.proofs.Sound.{EachEntry, IsFine, window_fine}
-use Rattle.archive_length.proofs.Lines.{read_small}
+use Rattle.archive_length.proofs.Sizes.{read_small}
 use Rattle.archive_length.proofs.Lengths.{length_is}
 use Rattle.archive_length.proofs.laws.archives_are_short.Goals as goal
 

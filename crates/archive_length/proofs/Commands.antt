@@ -1,6 +1,7 @@
--- The writes of a schedule that was read are twice as many as the lines of its text at most.
-use Rattle.std.proofs.Common.{◌≡◌, ℕ, zero, suc, ◌+◌, ◌*◌, ◌≤◌, List, [], ◌∷◌, ◌++◌, length, Bool, true, false, not, refl, sym, ap, ◌∙◌, subst, arith, Option, Some, None, Result, Ok, Err}
-use Rattle.std.specs.Prelude.{map as each, ◌&&◌}
+-- The writes that the lines of a schedule make are twice as many as the lines of its text at most.
+use Rattle.std.proofs.Common.{◌≡◌, ℕ, suc, ◌+◌, ◌*◌, ◌≤◌, List, [], ◌∷◌, ◌++◌, length, Bool, true, false, not, refl, ap, subst, arith, Option, Some, None, Result, Ok, Err}
+use Rattle.std.proofs.lemmas.List.{length-append, length-map}
+use Rattle.std.specs.Prelude.{◌&&◌}
 use Rattle.bson_value.specs.declared.namespace.NsName.{NsName}
 use Rattle.doc_path.specs.declared.parts.Form.{Form}
 use Rattle.json_tree.specs.declared.tree.Tree.{Tree}
@@ -13,13 +14,9 @@ use Rattle.schedule_model.specs.declared.line.Line.{Line}
 use Rattle.schedule_model.specs.declared.line.Line.TheVariants as lines
 use Rattle.schedule_model.specs.declared.refused.Refused.{Refused}
 use Rattle.schedule_model.specs.declared.refused.Refused.TheVariants.{NoSuchNamespace}
-use Rattle.schedule_text.specs.declared.schedule.NumberedLine.{NumberedLine}
-use Rattle.schedule_text.specs.declared.schedule.Schedule.{Schedule}
-use Rattle.schedule_text.specs.Grammar.{IsStep, AreSteps, ends, passed, outer, single, dumping, opens, inner, commits, aborts, IsCommand, IsRead, uncapped, skipped, capped, IsSchedule}
-use Rattle.schedule_text.specs.Grammar as texts
-use Rattle.schedule_report.specs.Schedules.{numbered, schedule_in}
 use Rattle.history_model.specs.Documents.{normal_of}
-use Rattle.history_model.specs.Stages.{Write, Single, Rename, Txn, Stage, Made, Effect, stage_by, stage_after, made_of, made_in}
+use Rattle.history_model.specs.Entries.{One}
+use Rattle.history_model.specs.Stages.{Single, Stage, Made, Effect, stage_by, stage_after, made_in}
 use Rattle.history_model.specs.Refusals.{is_there, first_of, document_rows, document_refusal}
 use Rattle.history_model.specs.Commands.{RecordedWrite, document_changes, rows_of_changes, and_then, changes_together, group_of, is_too_large, or_too_large, grouped, one_each, unless_refused, index_effects, command_rows, command_effects, effects, set_by, answered, applied}
 use Rattle.history_model.specs.Runs.{Run, Refusal, first_run, commanded, on_line, or_refused, after_line, after_lines, run}
@@ -30,77 +27,7 @@ use Rattle.history_model.proofs.Modelled as steps
 use Rattle.history_model.proofs.SourceMade.{finished_made}
 use Rattle.entry_times.proofs.Few.{effects_few}
 use Rattle.archive_length.proofs.Works.{work, work_made, work_join}
-
--- ---- lines of a text
-
--- how many lines of a text a line is of: a transaction is of its commands' lines and its last
-abbrev pub size_of_command : Command → ℕ
-size_of_command (commands.Txn ds) = suc (length ds)
-size_of_command _ = 1
-
-abbrev pub size_of : Line → ℕ
-size_of (lines.Cmd k) = size_of_command k
-size_of _ = 1
-
-abbrev pub sizes : List (ℕ × Line) → ℕ
-sizes [] = 0
-sizes (l ∷ ls) = size_of l.1 + sizes ls
-
-abbrev Transaction : Type 0
-Transaction = Option (List DocumentCommand)
-
--- the commands of a transaction so far
-abbrev so_far : Transaction → ℕ
-so_far None = 0
-so_far (Some ds) = length ds
-
-one_more : (ds : List DocumentCommand) (d : DocumentCommand) → length (ds ++ d ∷ []) ≡ suc (length ds)
-one_more [] d = refl
-one_more (e ∷ ds) d = ap suc (one_more ds d)
-
-command_small : (line : List ℕ) (c : Command) → IsCommand line c → size_of_command c ≡ 1
-command_small line (commands.At second) h = refl
-command_small line (commands.Recording form) h = refl
-command_small line (commands.Create ns options) h = refl
-command_small line (commands.DropColl ns) h = refl
-command_small line (commands.DropDatabase db) h = refl
-command_small line (commands.Rename from to) h = refl
-command_small line (commands.Document d) h = refl
-command_small line (commands.CreateIndex ns def) h = refl
-command_small line (commands.DropIndex ns name) h = refl
-command_small line (commands.Txn ds) h = absurd h
-
-step_small : (line : List ℕ) (x : Line) → IsStep line x → size_of x ≡ 1
-step_small line (lines.Cmd c) h = absurd h
-step_small line lines.Dump h = refl
-step_small line (lines.Copy ns n) h = refl
-step_small line lines.Mark h = refl
-step_small line (lines.Tail n) h = refl
-
-steps_small : {t : Transaction} {rest : List (ℕ × List ℕ)} {steps : List NumberedLine} → AreSteps t rest steps → sizes (each numbered steps) ≤ length rest + so_far t
-steps_small ends = omega arith
-steps_small (passed p k) = omega (arith, steps_small k)
-steps_small (outer u h k) = omega (arith, steps_small k)
-steps_small (single {line} {c} u h k) = omega (arith, steps_small k, command_small line c h)
-steps_small (dumping {line} {x} u h k) = omega (arith, steps_small k, step_small line x h)
-steps_small (opens u h k) = omega (arith, steps_small k)
-steps_small (inner d {line} {before} u h k) = omega (arith, steps_small k, one_more before d)
-steps_small (commits u h k) = omega (arith, steps_small k)
-steps_small (aborts u h k) = omega (arith, steps_small k)
-
-all_small : {rest : List (ℕ × List ℕ)} {s : Schedule} → IsRead rest s → sizes (each numbered s.lines) ≤ length rest
-all_small (uncapped k) = omega (arith, steps_small k)
-all_small (skipped p k) = omega (arith, all_small k)
-all_small (capped u h k) = omega (arith, steps_small k)
-
-same_count : (n : ℕ) (ls : List (List ℕ)) → length (texts.numbered n ls) ≡ length ls
-same_count n [] = omega arith
-same_count n (l ∷ ls) = omega (arith, same_count (n + 1) ls)
-
-pub read_small : (text : List ℕ) (s : Schedule) → IsSchedule text s → sizes (schedule_in s).lines ≤ 1048576
-read_small text s h = omega (arith, all_small h.are_read, same_count 1 h.lines, h.few_lines)
-
--- ---- what a command makes
+use Rattle.archive_length.proofs.Sizes.{size_of_command, size_of, sizes}
 
 abbrev work_of : List Effect → ℕ
 work_of [] = 0
@@ -113,10 +40,6 @@ made_work (d ∷ ds) st = omega (arith, made_work ds (stage_by d st))
 each_work : (cs : List RecordedWrite) → work_of (one_each cs) ≡ length (one_each cs)
 each_work [] = omega arith
 each_work (c ∷ cs) = omega (arith, each_work cs)
-
-each_same : (cs : List RecordedWrite) → length (one_each cs) ≡ length cs
-each_same [] = omega arith
-each_same (c ∷ cs) = omega (arith, each_same cs)
 
 index_work : (n : NsName) (o : Option Tree) → work_of (index_effects n o) ≡ length (index_effects n o)
 index_work n None = omega arith
@@ -157,11 +80,7 @@ alone (Delete n id) r e = e
 changes_few : (f : Form) (d : DocumentCommand) (r : Rows) (st : Stage) → document_refusal true d r ≡ None → length (document_changes f d r) ≤ 2
 changes_few f d r st e =
     let few = effects_few (commands.Document d) (record st { rows = r; form = f }) (one_each (document_changes f d r)) (ap (λ (x : Option Refused). unless_refused x (one_each (document_changes f d r))) (alone d r e)) in
-    omega (arith, few, each_same (document_changes f d r))
-
-length_join : (xs ys : List RecordedWrite) → length (xs ++ ys) ≡ length xs + length ys
-length_join [] ys = omega arith
-length_join (x ∷ xs) ys = omega (arith, length_join xs ys)
+    omega (arith, few, length-map {B = Effect} (document_changes f d r) (λ (c : RecordedWrite). (Single c.0, One c.1)))
 
 together_few : (f : Form) (ds : List DocumentCommand) (r : Rows) (st : Stage) (cs : List RecordedWrite) → changes_together f ds r ≡ Ok cs → length cs ≤ 2 * length ds
 together_few f [] r st cs e = subst (λ (l : List RecordedWrite). length l ≤ 0) (same_ok [] cs e) (omega arith)
@@ -173,15 +92,11 @@ together_few f (d ∷ ds) r st cs e = by (document_refusal true d r) refl (chang
     by None p (Err z) q g rest = absurd cc
     by None p (Ok more) q g rest =
         subst (λ (l : List RecordedWrite). length l ≤ 2 * suc (length ds)) (same_ok (document_changes f d r ++ more) cs g)
-        (omega (arith, length_join (document_changes f d r) more, changes_few f d r st p, rest more q))
-
-firsts : (cs : List RecordedWrite) → length (each (λ (x : RecordedWrite). x.0) cs) ≡ length cs
-firsts [] = refl
-firsts (c ∷ cs) = ap suc (firsts cs)
+        (omega (arith, length-append (document_changes f d r) more, changes_few f d r st p, rest more q))
 
 group_work : (cs : List RecordedWrite) → work_of (group_of cs) ≤ suc (length cs)
 group_work [] = omega arith
-group_work (c ∷ cs) = omega (arith, firsts cs)
+group_work (c ∷ cs) = omega (arith, length-map cs (λ (x : RecordedWrite). x.0))
 
 grouped_work : (x : Result (List RecordedWrite) Refused) (ds : List Effect) (n : ℕ) → ((cs : List RecordedWrite) → x ≡ Ok cs → length cs ≤ n) → grouped x ≡ Ok ds → work_of ds ≤ suc n
 grouped_work (Err x) ds n h e = absurd cc
