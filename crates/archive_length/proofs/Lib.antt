@@ -1,0 +1,9 @@
+mod Totals
+mod Works
+mod Scans
+mod Readings
+mod Sizes
+mod Commands
+mod Ends
+mod Pieces
+mod Lengths
