@@ -15,6 +15,7 @@ use Rattle.tools_cli.specs.Answers.{Says, Told, Answers}
 use Rattle.tools_cli.proofs.Numbers.{numbered}
 use Rattle.schedule_report.specs.Schedules.{schedule_in}
 use Rattle.schedule_bounds.specs.Laws.{ReadIsDumped}
+use Rattle.archive_length.specs.Laws.{ArchivesAreShort}
 use Rattle.whole_call.specs.Headline.{CompletesDump}
 
 abbrev IsComplete : Status → Type 0
@@ -45,10 +46,10 @@ with_number : (code : ℕ) (final : Status) → code ≡ code_of final → IsCom
 with_number code final e (inl f) = inl (e ∙ ap code_of f)
 with_number code final e (inr f) = inr (e ∙ ap code_of f)
 
-pub call_completes : ArchiveRestores → ReadIsDumped → (m : Meaning) (code : ℕ) (i o r : Turn) → Answers m code i o r → CompletesDump m code i o
-call_completes law dumped m code i o r a text s order d within f g =
+pub call_completes : ArchiveRestores → ReadIsDumped → ArchivesAreShort → (m : Meaning) (code : ℕ) (i o r : Turn) → Answers m code i o r → CompletesDump m code i o
+call_completes law dumped short m code i o r a text s order d f g =
     let P : Meaning → Type 0 = λ m. Says m a.status i o (turn r.before a.ran) in
     let answers : RestoreAnswers order a.status i o (turn r.before a.ran) = subst P d.means a.says in
-    let made = law (schedule_in s) order.plan d.last_read (dumped text s d.read d.done) d.copied d.replays within in
+    let made = law (schedule_in s) order.plan d.last_read (dumped text s d.read d.done) d.copied d.replays (short text s d.read d.done) in
     let came = came_to order a.status i o answers.says (answers.due (written (schedule_in s)) (restores made.0) d.given made.1) f g in
     with_number code a.final a.number (told_complete a.status a.final (turn a.ran r.after) a.told came)

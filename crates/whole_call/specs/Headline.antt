@@ -1,10 +1,9 @@
 -- What the whole call makes of the archive of a dump: it writes the listing of the source, and nothing but a fault of an end or want of memory keeps it from that.
-use Rattle.std.specs.Prelude.{◌≡◌, ◌≤◌, ◌⊎◌, ℕ, List, [], length, Ok, Some}
+use Rattle.std.specs.Prelude.{◌≡◌, ◌⊎◌, ℕ, List, [], Ok, Some}
 use Rattle.bson_value.specs.declared.value.Ts.{Ts}
 use Rattle.schedule_text.specs.declared.schedule.Schedule.{Schedule}
 use Rattle.schedule_text.specs.Reading.{schedule_of}
 use Rattle.schedule_report.specs.Schedules.{schedule_in}
-use Rattle.archive_format.specs.Archive.{limit}
 use Rattle.state_listing.specs.Listing.{listing}
 use Rattle.history_model.specs.Runs.{Done}
 use Rattle.history_model.specs.Histories.{moments, outcome}
@@ -32,8 +31,8 @@ ListsDump m code input output =
     (text : List ℕ) (s : Schedule) (order : RestoreOrder) → RestoresDump text s m order input → code ≡ 0 →
     Writes output (listing order.form (source_taken (schedule_in s) order.plan)) × (input.after.bytes ≡ Some [])
 
--- where no fault of the input or the output rose, the status is 0, or that of missing memory. No archive is longer than the limit
+-- where no fault of the input or the output rose, the status is 0, or that of missing memory
 abbrev pub CompletesDump : Meaning → ℕ → Turn → Turn → Type 0
 CompletesDump m code input output =
-    (text : List ℕ) (s : Schedule) (order : RestoreOrder) → RestoresDump text s m order input → length (written (schedule_in s)) ≤ limit →
+    (text : List ℕ) (s : Schedule) (order : RestoreOrder) → RestoresDump text s m order input →
     (Failed input → ⊥) → (Failed output → ⊥) → (code ≡ 0) ⊎ (code ≡ 11)

@@ -4,6 +4,7 @@ ghost use Rattle.tools_cli.specs.Ends.{turn};
 ghost use Rattle.tools_cli.specs.Answers.{Answers};
 ghost use Rattle.whole_call.specs.Headline.{ListsDump, CompletesDump};
 
+use archive_length::archives_are_short;
 use restored_dump::archive_restores;
 use restored_source::lists_source;
 use schedule_bounds::read_is_dumped;
@@ -35,5 +36,6 @@ pub fn tools<S: Source, K: Sink, R: Sink>(
     lists_source();
     archive_restores();
     read_is_dumped();
+    archives_are_short();
     answer(alloc, words, input, output, report)
 }

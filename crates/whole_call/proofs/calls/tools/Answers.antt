@@ -16,4 +16,4 @@ returns-clause-complete g c =
     let input = turn (g.S.Source.end c.args.input.now) (g.S.Source.end c.tools.new.input) in
     let output = turn (g.K.Sink.end c.args.output.now) (g.K.Sink.end c.tools.new.output) in
     let report = turn (g.R.Sink.end c.args.report.now) (g.R.Sink.end c.tools.new.report) in
-    call_completes c.archive_restores.ensures c.read_is_dumped.ensures (meaning_of (texts_of c.args.words.now)) c.tools.result input output report c.tools.ensures
+    call_completes c.archive_restores.ensures c.read_is_dumped.ensures c.archives_are_short.ensures (meaning_of (texts_of c.args.words.now)) c.tools.result input output report c.tools.ensures
