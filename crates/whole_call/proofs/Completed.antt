@@ -31,6 +31,8 @@ no_memory order (is.Usage at) i o says from f g = absurd from
 no_memory order (is.BadSchedule line kind) i o says from f g = absurd from
 no_memory order (is.BadArchive x) i o says from f g = absurd from
 no_memory order (is.NotRestored x) i o says from f g = absurd from
+no_memory order (is.Rolled start oldest) i o says from f g = absurd from
+no_memory order (is.Renamed ts) i o says from f g = absurd from
 
 came_to : (order : RestoreOrder) (status : Status) (i o : Turn) → RestoreSays order status i o → Gives status 0 → (Failed i → ⊥) → (Failed o → ⊥) → IsComplete status
 came_to order status i o says (inl e) f g = inl ((numbered status).done e)
