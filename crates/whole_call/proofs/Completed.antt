@@ -1,5 +1,5 @@
 -- A call on the archive of a dump whose ends don't fail ends with status 0 or without memory.
-use Rattle.std.proofs.Common.{◌≡◌, ℕ, refl, ap, ◌∙◌, subst, inl, inr}
+use Rattle.std.proofs.Common.{◌≡◌, ℕ, List, refl, ap, ◌∙◌, subst, inl, inr}
 use Rattle.std.specs.Prelude.{◌⊎◌}
 use Rattle.restore_plan.specs.Outcome.{restores}
 use Rattle.dump_model.specs.Archives.{written}
@@ -7,7 +7,7 @@ use Rattle.restored_dump.specs.Laws.{ArchiveRestores}
 use Rattle.tools_cli.specs.declared.order.RestoreOrder.{RestoreOrder}
 use Rattle.tools_cli.specs.declared.status.Status.{Status}
 use Rattle.tools_cli.specs.declared.status.Status.TheVariants as is
-use Rattle.tools_cli.specs.Words.{Meaning}
+use Rattle.tools_cli.specs.Words.{Meaning, meaning_of}
 use Rattle.tools_cli.specs.Statuses.{code_of, IsOutside, Gives}
 use Rattle.tools_cli.specs.Ends.{Turn, Failed, turn}
 use Rattle.tools_cli.specs.RestoreAnswers.{RestoreSays, RestoreAnswers}
@@ -16,7 +16,9 @@ use Rattle.tools_cli.proofs.Numbers.{numbered}
 use Rattle.schedule_report.specs.Schedules.{schedule_in}
 use Rattle.schedule_bounds.specs.Laws.{ReadIsDumped}
 use Rattle.archive_length.specs.Laws.{ArchivesAreShort}
+use Rattle.restore_filter.specs.Laws.{NamesStay}
 use Rattle.whole_call.specs.Headline.{CompletesDump}
+use Rattle.whole_call.proofs.Replaying.{replays}
 
 abbrev IsComplete : Status → Type 0
 IsComplete status = (status ≡ is.Done) ⊎ (status ≡ is.NoMemory)
@@ -48,10 +50,10 @@ with_number : (code : ℕ) (final : Status) → code ≡ code_of final → IsCom
 with_number code final e (inl f) = inl (e ∙ ap code_of f)
 with_number code final e (inr f) = inr (e ∙ ap code_of f)
 
-pub call_completes : ArchiveRestores → ReadIsDumped → ArchivesAreShort → (m : Meaning) (code : ℕ) (i o r : Turn) → Answers m code i o r → CompletesDump m code i o
-call_completes law dumped short m code i o r a text s order d f g =
+pub call_completes : ArchiveRestores → ReadIsDumped → ArchivesAreShort → NamesStay → (words : List (List ℕ)) (code : ℕ) (i o r : Turn) → Answers (meaning_of words) code i o r → CompletesDump words code i o
+call_completes law dumped short stay words code i o r a text s order d f g =
     let P : Meaning → Type 0 = λ m. Says m a.status i o (turn r.before a.ran) in
     let answers : RestoreAnswers order a.status i o (turn r.before a.ran) = subst P d.means a.says in
-    let made = law (schedule_in s) order.plan d.last_read (dumped text s d.read d.done) d.copied d.replays (short text s d.read d.done) in
+    let made = law (schedule_in s) order.plan d.last_read (dumped text s d.read d.done) d.copied (replays stay words order d.last_read d.means d.replaying d.late) (short text s d.read d.done) in
     let came = came_to order a.status i o answers.says (answers.due (written (schedule_in s)) (restores made.0) d.given made.1) f g in
     with_number code a.final a.number (told_complete a.status a.final (turn a.ran r.after) a.told came)

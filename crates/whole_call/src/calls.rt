@@ -5,6 +5,7 @@ ghost use Rattle.tools_cli.specs.Answers.{Answers};
 ghost use Rattle.whole_call.specs.Headline.{ListsDump, CompletesDump};
 
 use archive_length::archives_are_short;
+use restore_filter::names_stay;
 use restored_dump::archive_restores;
 use restored_source::lists_source;
 use schedule_bounds::read_is_dumped;
@@ -26,10 +27,10 @@ pub fn tools<S: Source, K: Sink, R: Sink>(
         (turn (S.end input.old) (S.end input.new))
         (turn (K.end output.old) (K.end output.new))
         (turn (R.end report.old) (R.end report.new)) }
-    ensures lists { ListsDump (meaning_of (texts_of words.now)) result
+    ensures lists { ListsDump (texts_of words.now) result
         (turn (S.end input.old) (S.end input.new))
         (turn (K.end output.old) (K.end output.new)) }
-    ensures complete { CompletesDump (meaning_of (texts_of words.now)) result
+    ensures complete { CompletesDump (texts_of words.now) result
         (turn (S.end input.old) (S.end input.new))
         (turn (K.end output.old) (K.end output.new)) }
 {
@@ -37,5 +38,6 @@ pub fn tools<S: Source, K: Sink, R: Sink>(
     archive_restores();
     read_is_dumped();
     archives_are_short();
+    names_stay();
     answer(alloc, words, input, output, report)
 }

@@ -1,4 +1,4 @@
-use Rattle.tools_cli.specs.Words.{meaning_of, texts_of}
+use Rattle.tools_cli.specs.Words.{texts_of}
 use Rattle.tools_cli.specs.Ends.{turn}
 use Rattle.whole_call.proofs.Written.{call_writes}
 use Rattle.whole_call.proofs.Completed.{call_completes}
@@ -9,11 +9,11 @@ returns-clause-lists g c =
     let input = turn (g.S.Source.end c.args.input.now) (g.S.Source.end c.tools.new.input) in
     let output = turn (g.K.Sink.end c.args.output.now) (g.K.Sink.end c.tools.new.output) in
     let report = turn (g.R.Sink.end c.args.report.now) (g.R.Sink.end c.tools.new.report) in
-    call_writes c.lists_source.ensures c.read_is_dumped.ensures (meaning_of (texts_of c.args.words.now)) c.tools.result input output report c.tools.ensures
+    call_writes c.lists_source.ensures c.read_is_dumped.ensures c.names_stay.ensures (texts_of c.args.words.now) c.tools.result input output report c.tools.ensures
 
 pub returns-clause-complete : goal.returns-clause-complete
 returns-clause-complete g c =
     let input = turn (g.S.Source.end c.args.input.now) (g.S.Source.end c.tools.new.input) in
     let output = turn (g.K.Sink.end c.args.output.now) (g.K.Sink.end c.tools.new.output) in
     let report = turn (g.R.Sink.end c.args.report.now) (g.R.Sink.end c.tools.new.report) in
-    call_completes c.archive_restores.ensures c.read_is_dumped.ensures c.archives_are_short.ensures (meaning_of (texts_of c.args.words.now)) c.tools.result input output report c.tools.ensures
+    call_completes c.archive_restores.ensures c.read_is_dumped.ensures c.archives_are_short.ensures c.names_stay.ensures (texts_of c.args.words.now) c.tools.result input output report c.tools.ensures
