@@ -8,10 +8,6 @@ mod dumped;
 #[cfg(test)]
 mod failing_ends;
 #[cfg(test)]
-mod healed;
-#[cfg(test)]
-mod sources;
-#[cfg(test)]
 mod steps;
 #[cfg(test)]
 mod store;
