@@ -5,7 +5,7 @@ use std::io::{BufReader, BufWriter, ErrorKind, Write};
 use std::process::ExitCode;
 use std::{env, io};
 use tool_io::{Sink, StdSink, StdSource};
-use whole_call::tools;
+use tools_cli::tools;
 
 /// What is gathered before the operating system is asked to read or to write, in bytes.
 const GATHERED: usize = 65_536;

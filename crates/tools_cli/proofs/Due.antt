@@ -5,26 +5,26 @@ use Rattle.demux.proofs.Begin.{keeps_same}
 use Rattle.restore_plan.specs.declared.plan.Plan.{Plan}
 use Rattle.restore_plan.specs.Outcome.{Outcome, restores, refuses, fails, IsOutcome, OnInput}
 use Rattle.restore_plan.proofs.Outcomes.{outcome_once}
-use Rattle.tools_cli.specs.declared.order.Order.TheVariants as orders
+use Rattle.tools_words.specs.declared.order.Order.TheVariants as orders
 use Rattle.schedule_text.specs.declared.schedule.Schedule.{Schedule}
 use Rattle.schedule_text.specs.Reading.{Bad, schedule_of}
-use Rattle.tools_cli.specs.declared.order.SourceOrder.{SourceOrder}
-use Rattle.tools_cli.specs.declared.order.RestoreOrder.{RestoreOrder}
-use Rattle.tools_cli.specs.declared.status.Status.{Status}
-use Rattle.tools_cli.specs.declared.status.Status.TheVariants as is
+use Rattle.tools_words.specs.declared.order.SourceOrder.{SourceOrder}
+use Rattle.tools_words.specs.declared.order.RestoreOrder.{RestoreOrder}
+use Rattle.tools_commands.specs.declared.status.Status.{Status}
+use Rattle.tools_commands.specs.declared.status.Status.TheVariants as is
 use Rattle.tools_cli.specs.declared.texts.TheConstants.{HELP, VERSION}
-use Rattle.tools_cli.specs.Words.{Meaning}
+use Rattle.tools_words.specs.Words.{Meaning}
 use Rattle.tool_io.specs.Ends.{End}
-use Rattle.tools_cli.specs.Ends.{Turn, Untouched}
-use Rattle.tools_cli.specs.Statuses.{Gives}
-use Rattle.tools_cli.specs.SourceAnswers.{reading_code, SourceSays, SourceAnswers}
-use Rattle.tools_cli.specs.DumpAnswers.{dump_code, DumpSays, DumpAnswers}
-use Rattle.tools_cli.specs.DumpAnswers as dumps
-use Rattle.tools_cli.specs.RestoreAnswers.{outcome_code, RestoreSays, RestoreAnswers}
+use Rattle.tools_commands.specs.Ends.{Turn, Untouched}
+use Rattle.tools_commands.specs.Statuses.{Gives}
+use Rattle.tools_commands.specs.SourceAnswers.{reading_code, SourceSays, SourceAnswers}
+use Rattle.tools_commands.specs.DumpAnswers.{dump_code, DumpSays, DumpAnswers}
+use Rattle.tools_commands.specs.DumpAnswers as dumps
+use Rattle.tools_commands.specs.RestoreAnswers.{outcome_code, RestoreSays, RestoreAnswers}
 use Rattle.tools_cli.specs.ShowAnswers.{Shown, ShowAnswers}
 use Rattle.tools_cli.specs.Answers.{Says}
-use Rattle.tools_cli.proofs.Reading.{refused, failed, none_read}
-use Rattle.tools_cli.proofs.Telling.{keeps_front}
+use Rattle.tools_commands.proofs.Reading.{refused, failed, none_read}
+use Rattle.tools_commands.proofs.Telling.{keeps_front}
 
 -- `source` and `dump`
 

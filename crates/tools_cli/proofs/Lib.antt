@@ -1,11 +1,4 @@
-pub mod Behind
-pub mod DecimalTexts
 pub mod Due
-pub mod Faultless
-pub mod Numbers
-pub mod Reading
-pub mod Stopped
-pub mod Telling
-pub mod Dumping
-pub mod Pieces
-pub mod Patterns
+pub mod Replaying
+pub mod Written
+pub mod Completed

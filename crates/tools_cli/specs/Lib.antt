@@ -1,12 +1,4 @@
-pub mod Values
-pub mod Words
-pub mod Patterns
-pub mod Statuses
-pub mod Lines
 pub mod Answers
-pub mod SourceAnswers
-pub mod DumpAnswers
-pub mod RestoreAnswers
 pub mod ShowAnswers
 pub mod UsageAnswers
-pub mod Ends
+pub mod Headline

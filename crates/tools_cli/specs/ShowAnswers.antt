@@ -1,9 +1,9 @@
 -- What a command says that shows a text of its own, as `--help` and `--version`, by its status.
 use Rattle.std.specs.Prelude.{ℕ, List}
-use Rattle.tools_cli.specs.declared.status.Status.{Status}
-use Rattle.tools_cli.specs.declared.status.Status.TheVariants as is
-use Rattle.tools_cli.specs.Statuses.{Gives}
-use Rattle.tools_cli.specs.Ends.{Turn, Same, Untouched, Failed, Writes, WritesFront}
+use Rattle.tools_commands.specs.declared.status.Status.{Status}
+use Rattle.tools_commands.specs.declared.status.Status.TheVariants as is
+use Rattle.tools_commands.specs.Statuses.{Gives}
+use Rattle.tools_commands.specs.Ends.{Turn, Same, Untouched, Failed, Writes, WritesFront}
 
 abbrev pub Shown : List ℕ → Status → Turn → Type 0
 Shown text is.Done output = Writes output text

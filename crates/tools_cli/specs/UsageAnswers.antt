@@ -1,9 +1,9 @@
 -- What is said where the words are no command, by the status.
 use Rattle.std.specs.Prelude.{⊤, ◌≡◌, ℕ}
-use Rattle.tools_cli.specs.declared.status.Status.{Status}
-use Rattle.tools_cli.specs.declared.status.Status.TheVariants as is
-use Rattle.tools_cli.specs.Statuses.{Gives}
-use Rattle.tools_cli.specs.Ends.{Turn, Same, Untouched}
+use Rattle.tools_commands.specs.declared.status.Status.{Status}
+use Rattle.tools_commands.specs.declared.status.Status.TheVariants as is
+use Rattle.tools_commands.specs.Statuses.{Gives}
+use Rattle.tools_commands.specs.Ends.{Turn, Same, Untouched}
 
 -- the status names this place, unless memory was short
 abbrev pub Names : ℕ → Status → Type 0

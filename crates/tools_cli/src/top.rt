@@ -1,21 +1,21 @@
 //! The whole call.
 ghost use Rattle.std.specs.Prelude.{Ok};
-ghost use Rattle.tools_cli.specs.Words.{meaning_of, texts_of};
-ghost use Rattle.tools_cli.specs.Ends.{turn};
+ghost use Rattle.tools_words.specs.Words.{meaning_of, texts_of};
+ghost use Rattle.tools_commands.specs.Ends.{turn};
 ghost use Rattle.tools_cli.specs.ShowAnswers.{Shown};
 ghost use Rattle.tools_cli.specs.Answers.{Says, Answers};
+ghost use Rattle.tools_cli.specs.Headline.{ListsDump, CompletesDump};
 
-use crate::dump::dump_source;
-use crate::listing::list_archive;
-use crate::order::Order;
-use crate::report::tell;
-use crate::source::list_source;
-use crate::status::Status;
 use crate::texts::{HELP, VERSION};
-use crate::words;
-use crate::words::WordsFault;
+use archive_length::archives_are_short;
+use restore_filter::names_stay;
+use restored_dump::archive_restores;
+use restored_source::lists_source;
+use schedule_bounds::read_is_dumped;
 use std::alloc::Global;
 use tool_io::{Fault, Sink, Source};
+use tools_commands::{Status, dump_source, list_archive, list_source, tell};
+use tools_words::{Order, WordsFault, read_words};
 
 // Writes a text that the command shows.
 fn show<K: Sink>(text: &str, output: &mut K) -> Status
@@ -63,15 +63,16 @@ fn run<S: Source, K: Sink, R: Sink>(
         (turn (K.end output.old) (K.end output.new))
         (turn (R.end report.old) (R.end report.new)) }
 {
-    match words::read(alloc, words) {
+    match read_words(alloc, words) {
         Ok(order) => perform(alloc, order, input, output, report),
         Err(WordsFault::Usage { word }) => Status::Usage { word },
         Err(WordsFault::NoMemory) => Status::NoMemory,
     }
 }
 
-/// All that the program does: reads the input, writes the output, tells a line on the report where the status isn't 0, and answers
-/// the status.
+/// All that the program does: reads the input, writes the output, tells a line on the report where the status isn't 0, and
+/// answers the status. Where it restores the archive of a dump with status 0, the output is the listing of the source; and
+/// there the status is 0, or that of missing memory, as long as the input and the output don't fail.
 pub fn tools<S: Source, K: Sink, R: Sink>(
     alloc: Global,
     words: &[String],
@@ -79,11 +80,22 @@ pub fn tools<S: Source, K: Sink, R: Sink>(
     output: &mut K,
     report: &mut R,
 ) -> u8
-    ensures { Answers (meaning_of (texts_of words.now)) result
+    ensures answers { Answers (meaning_of (texts_of words.now)) result
         (turn (S.end input.old) (S.end input.new))
         (turn (K.end output.old) (K.end output.new))
         (turn (R.end report.old) (R.end report.new)) }
+    ensures lists { ListsDump (texts_of words.now) result
+        (turn (S.end input.old) (S.end input.new))
+        (turn (K.end output.old) (K.end output.new)) }
+    ensures complete { CompletesDump (texts_of words.now) result
+        (turn (S.end input.old) (S.end input.new))
+        (turn (K.end output.old) (K.end output.new)) }
 {
+    lists_source();
+    archive_restores();
+    read_is_dumped();
+    archives_are_short();
+    names_stay();
     let status = run(alloc, words, input, output, report);
     tell(alloc, status, report).code()
 }

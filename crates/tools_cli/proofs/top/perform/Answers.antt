@@ -1,8 +1,8 @@
 use Rattle.std.proofs.Common.{refl, sym, subst}
 use Rattle.std.specs.Prelude.{Ok}
-use Rattle.tools_cli.specs.declared.order.Order.{Order}
+use Rattle.tools_words.specs.declared.order.Order.{Order}
 use Rattle.tools_cli.specs.declared.texts.TheConstants.{HELP}
-use Rattle.tools_cli.specs.Ends.{turn}
+use Rattle.tools_commands.specs.Ends.{turn}
 use Rattle.tools_cli.specs.Answers.{Says}
 use Rattle.tools_cli.proofs.Due.{source_says, dump_says, restore_says, show_says}
 use Rattle.tools_cli.proofs.top.perform.Goals as goal

@@ -1,4 +1,4 @@
-use Rattle.tools_cli.specs.Words.{meaning_of, texts_of}
+use Rattle.tools_words.specs.Words.{meaning_of, texts_of}
 use Rattle.tools_cli.proofs.Due.{memory_says}
 use Rattle.tools_cli.proofs.top.run.Goals as goal
 

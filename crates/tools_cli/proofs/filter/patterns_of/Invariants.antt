@@ -1,6 +1,0 @@
-use Rattle.std.proofs.Common.{◌≡◌}
-use Rattle.tools_cli.specs.Patterns.{patterns_of}
-use Rattle.tools_cli.proofs.filter.patterns_of.Given as goal
-
-abbrev pub invariant-loop-next : goal.invariant-loop-next
-invariant-loop-next l = l.patterns ≡ patterns_of l.yielded

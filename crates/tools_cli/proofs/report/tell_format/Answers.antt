@@ -1,5 +1,0 @@
-use Rattle.tools_cli.specs.Lines.{format_text}
-use Rattle.tools_cli.proofs.report.tell_format.Goals as goal
-
-pub tell_text-requires : goal.tell_text-requires
-tell_text-requires g c = c.archive_line-text.ensures (format_text c.args.fault) c.format_text.ensures

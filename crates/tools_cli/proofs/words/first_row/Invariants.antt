@@ -1,9 +1,0 @@
-use Rattle.std.proofs.Common.{◌≡◌, length}
-use Rattle.tools_cli.specs.Words.{first_row}
-use Rattle.tools_cli.proofs.words.first_row.Given as goal
-
-abbrev pub invariant-rows : goal.invariant-rows
-invariant-rows l = first_row l.fn.rows l.fn.word ≡ first_row l.rest l.fn.word
-
-abbrev pub decreases-rows : goal.decreases-rows
-decreases-rows l = length l.rest

@@ -1,0 +1,6 @@
+pub mod Faultless
+pub mod Numbers
+pub mod Reading
+pub mod Telling
+pub mod Dumping
+pub mod Pieces

@@ -1,0 +1,5 @@
+pub mod Behind
+pub mod DecimalTexts
+pub mod Stopped
+pub mod Patterns
+pub mod Rounds

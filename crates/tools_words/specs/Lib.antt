@@ -1,0 +1,4 @@
+pub mod Values
+pub mod Words
+pub mod Patterns
+pub mod Laws

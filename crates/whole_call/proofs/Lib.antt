@@ -1,3 +1,0 @@
-pub mod Replaying
-pub mod Written
-pub mod Completed
