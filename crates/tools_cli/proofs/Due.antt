@@ -21,6 +21,7 @@ use Rattle.tools_commands.specs.SourceAnswers.{reading_code, SourceSays, SourceA
 use Rattle.tools_commands.specs.DumpAnswers.{dump_code, DumpSays, DumpAnswers}
 use Rattle.tools_commands.specs.DumpAnswers as dumps
 use Rattle.tools_commands.specs.RestoreAnswers.{outcome_code, RestoreSays, RestoreAnswers}
+use Rattle.drill_run.specs.Drills.{drill_line}
 use Rattle.tools_cli.specs.ShowAnswers.{Shown, ShowAnswers}
 use Rattle.tools_cli.specs.Answers.{Says}
 use Rattle.tools_commands.proofs.Reading.{refused, failed, none_read}
@@ -94,7 +95,7 @@ restore_due order is.NoMemory i o h all q e k = inr tt
 pub restore_says : (order : RestoreOrder) (s : Status) (i o r : Turn) → RestoreSays order s i o → Untouched r → RestoreAnswers order s i o r
 restore_says order s i o r h e = record { says = h; silent = e; due = restore_due order s i o h }
 
--- `--help` and `--version`
+-- `drill`, `--help` and `--version`
 
 pub show_says : (text : List ℕ) (s : Status) (i : End) (o : Turn) (r : End) → Shown text s o → ShowAnswers text s (record { before = i; after = i }) o (record { before = r; after = r })
 show_says text is.Done i o r h = record { unread = keeps_same i.bytes; shown = h; silent = refl; due = inl refl }
@@ -120,6 +121,7 @@ pub memory_says : (m : Meaning) (i o r : End) → Says m is.NoMemory (still i) (
 memory_says (Ok (orders.Source order)) i o r = source_says order is.NoMemory (still i) (still o) (still r) (inl (keeps_same o.bytes, refl))
 memory_says (Ok orders.Dump) i o r = dump_says is.NoMemory (still i) (still o) (still r) (inl (keeps_same o.bytes, refl))
 memory_says (Ok (orders.Restore order)) i o r = restore_says order is.NoMemory (still i) (still o) (still r) (none_read order.plan i, inl (keeps_same o.bytes)) refl
+memory_says (Ok (orders.Drill n)) i o r = show_nothing (drill_line n) i o r
 memory_says (Ok orders.Help) i o r = show_nothing HELP.now i o r
 memory_says (Ok orders.Version) i o r = show_nothing VERSION.now i o r
 memory_says (Err at) i o r = record { names = tt; unread = keeps_same i.bytes; unwritten = keeps_same o.bytes; silent = refl; due = inr tt }

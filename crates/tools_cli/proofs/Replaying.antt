@@ -31,6 +31,7 @@ restores : (verb : Verb) (gs : List Given) (order : RestoreOrder) → hold verb 
 restores verbs.Restore gs order h e = record { given = gs; hold = h; plan = cc }
 restores verbs.Source gs order h e = cc
 restores verbs.Dump gs order h e = cc
+restores verbs.Drill gs order h e = cc
 restores verbs.Help gs order h e = cc
 restores verbs.Version gs order h e = cc
 

@@ -1,6 +1,7 @@
 -- What a call says of the ends that were lent: what the words mean says it, by the status that the call came to, and that status is
 -- told.
 use Rattle.std.specs.Prelude.{◌≡◌, ℕ, Ok, Err}
+use Rattle.drill_run.specs.Drills.{drill_line}
 use Rattle.tools_words.specs.declared.order.Order.TheVariants as orders
 use Rattle.tools_commands.specs.declared.status.Status.{Status}
 use Rattle.tools_cli.specs.declared.texts.TheConstants.{HELP, VERSION}
@@ -20,6 +21,7 @@ abbrev pub Says : Meaning → Status → Turn → Turn → Turn → Type 0
 Says (Ok (orders.Source order)) status input output report = SourceAnswers order status input output report
 Says (Ok orders.Dump) status input output report = DumpAnswers status input output report
 Says (Ok (orders.Restore order)) status input output report = RestoreAnswers order status input output report
+Says (Ok (orders.Drill n)) status input output report = ShowAnswers (drill_line n) status input output report
 Says (Ok orders.Help) status input output report = ShowAnswers HELP.now status input output report
 Says (Ok orders.Version) status input output report = ShowAnswers VERSION.now status input output report
 Says (Err at) status input output report = UsageAnswers at status input output report

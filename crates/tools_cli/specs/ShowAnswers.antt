@@ -1,4 +1,4 @@
--- What a command says that shows a text of its own, as `--help` and `--version`, by its status.
+-- What a command says that reads nothing and shows a text, as `drill`, `--help` and `--version`, by its status.
 use Rattle.std.specs.Prelude.{ℕ, List}
 use Rattle.tools_commands.specs.declared.status.Status.{Status}
 use Rattle.tools_commands.specs.declared.status.Status.TheVariants as is

@@ -4,6 +4,7 @@ pub const HELP: &str = "\
 usage: suzhimanu source [OPTION..] < SCHEDULE
        suzhimanu dump --archive --oplog < SCHEDULE > ARCHIVE
        suzhimanu restore --archive [OPTION..] < ARCHIVE
+       suzhimanu drill N
        suzhimanu --help
        suzhimanu --version
 
@@ -35,6 +36,9 @@ restore  reads an archive from standard input and lists what it restores
                   what the stars stand for; may stand more than once, in pairs, and not beside --oplogReplay
   --form=hex      documents are listed by their bytes, in hexadecimal
   --form=json     documents are listed as canonical Extended JSON, which is the form where none is given
+
+drill  draws N lines of a schedule, from 1 to 100,000, dumps it, restores the archive with its entries replayed, compares what
+        that lists with the source, and tells how much it was
 
 In a pattern * stands for any characters, and \\ takes the next character as it stands.
 ";

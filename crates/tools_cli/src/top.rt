@@ -1,5 +1,7 @@
 //! The whole call.
-ghost use Rattle.std.specs.Prelude.{Ok};
+ghost use Rattle.std.specs.Prelude.{◌≤◌, Ok};
+ghost use Rattle.drill_run.specs.Drills.{drill_line};
+ghost use Rattle.tools_words.specs.Laws.{MayRun};
 ghost use Rattle.tools_words.specs.Words.{meaning_of, texts_of};
 ghost use Rattle.tools_commands.specs.Ends.{turn};
 ghost use Rattle.tools_cli.specs.ShowAnswers.{Shown};
@@ -8,6 +10,7 @@ ghost use Rattle.tools_cli.specs.Headline.{ListsDump, CompletesDump};
 
 use crate::texts::{HELP, VERSION};
 use archive_length::archives_are_short;
+use drill_run::drill;
 use restore_filter::names_stay;
 use restored_dump::archive_restores;
 use restored_source::lists_source;
@@ -15,13 +18,26 @@ use schedule_bounds::read_is_dumped;
 use std::alloc::Global;
 use tool_io::{Fault, Sink, Source};
 use tools_commands::{Status, dump_source, list_archive, list_source, tell};
-use tools_words::{Order, WordsFault, read_words};
+use tools_words::{Order, WordsFault, read_words, rounds_are_few};
 
 // Writes a text that the command shows.
 fn show<K: Sink>(text: &str, output: &mut K) -> Status
     ensures { Shown text.now result (turn (K.end output.old) (K.end output.new)) }
 {
     match output.write(text.as_bytes()) {
+        Ok(()) => Status::Done,
+        Err(Fault::Failed) => Status::WriteFault,
+        Err(Fault::NoMemory) => Status::NoMemory,
+    }
+}
+
+// Writes the line of a drill.
+fn show_drill<K: Sink>(alloc: Global, n: u32, output: &mut K) -> Status
+    requires least { 1 ≤ n }
+    requires most { n ≤ 100000 }
+    ensures { Shown (drill_line n) result (turn (K.end output.old) (K.end output.new)) }
+{
+    match drill(alloc, n, output) {
         Ok(()) => Status::Done,
         Err(Fault::Failed) => Status::WriteFault,
         Err(Fault::NoMemory) => Status::NoMemory,
@@ -36,6 +52,7 @@ fn perform<S: Source, K: Sink, R: Sink>(
     output: &mut K,
     report: &mut R,
 ) -> Status
+    requires { MayRun order }
     ensures { Says (Ok order) result
         (turn (S.end input.old) (S.end input.new))
         (turn (K.end output.old) (K.end output.new))
@@ -45,6 +62,7 @@ fn perform<S: Source, K: Sink, R: Sink>(
         Order::Source(order) => list_source(alloc, order, input, output, report),
         Order::Dump => dump_source(alloc, input, output, report),
         Order::Restore(order) => list_archive(alloc, order, input, output),
+        Order::Drill { rounds } => show_drill(alloc, rounds, output),
         Order::Help => show(HELP, output),
         Order::Version => show(VERSION, output),
     }
@@ -63,6 +81,7 @@ fn run<S: Source, K: Sink, R: Sink>(
         (turn (K.end output.old) (K.end output.new))
         (turn (R.end report.old) (R.end report.new)) }
 {
+    rounds_are_few();
     match read_words(alloc, words) {
         Ok(order) => perform(alloc, order, input, output, report),
         Err(WordsFault::Usage { word }) => Status::Usage { word },

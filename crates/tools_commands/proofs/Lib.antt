@@ -1,4 +1,3 @@
-pub mod Faultless
 pub mod Numbers
 pub mod Reading
 pub mod Telling

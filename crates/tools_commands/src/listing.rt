@@ -3,12 +3,12 @@ ghost use Rattle.std.specs.Prelude.{◌≡◌};
 ghost use Rattle.tools_commands.specs.Ends.{turn};
 ghost use Rattle.tools_commands.specs.RestoreAnswers.{RestoreSays};
 
-use crate::order::RestoreOrder;
 use crate::status::Status;
 use restore_plan::{ArchiveFault, restore_archive};
 use state_listing::list;
 use std::alloc::Global;
 use tool_io::{Fault, Sink, Source};
+use tools_words::RestoreOrder;
 
 /// Reads an archive from the input, and lists on the output what it restores to.
 pub fn list_archive<S: Source, K: Sink>(

@@ -2,6 +2,7 @@
 use Rattle.std.proofs.Common.{◌≡◌, ℕ, ◌+◌, ◌≤◌, Bool, true, false, List, [], ◌∷◌, length, refl, sym, subst, arith, Option, Some, None}
 use Rattle.std.specs.Prelude.{◌&&◌, nat_le, fold, Result, Ok, Err, if◌then◌else◌}
 use Rattle.std.proofs.lemmas.Bool.{and_parts, leb-true}
+use Rattle.tools_words.specs.declared.order.Order.{Order}
 use Rattle.tools_words.specs.declared.order.Order.TheVariants as orders
 use Rattle.tools_words.specs.declared.table.Verb.{Verb}
 use Rattle.tools_words.specs.declared.table.Verb.TheVariants as verbs
@@ -9,6 +10,7 @@ use Rattle.tools_words.specs.declared.words.Given.{Given}
 use Rattle.tools_words.specs.declared.value.Value.{Value}
 use Rattle.tools_words.specs.declared.value.Value.TheVariants as values
 use Rattle.tools_words.specs.Values.{row_of, within, rounds_in}
+use Rattle.tools_words.specs.Laws.{MayRun}
 use Rattle.tools_words.specs.Words.{rounds_given, order_of, hold, step, ordered, commands, command_of, meaning_of}
 
 abbrev IsFew : ℕ → Type 0
@@ -55,10 +57,18 @@ ordered_few verb (Ok gs) n e = by (hold verb gs) e
     by false f = cc
     by true f = (let g : order_of verb gs ≡ orders.Drill n = cc in order_few verb gs n g)
 
-pub bounded : (words : List (List ℕ)) (n : ℕ) → meaning_of words ≡ Ok (orders.Drill n) → IsFew n
+bounded : (words : List (List ℕ)) (n : ℕ) → meaning_of words ≡ Ok (orders.Drill n) → IsFew n
 bounded [] n e = cc
 bounded (w ∷ ws) n e = by (row_of commands w) e
   where
     by : (o : Option Verb) → command_of o ws ≡ Ok (orders.Drill n) → IsFew n
     by None f = cc
     by (Some verb) f = ordered_few verb (fold (step verb) (Ok []) ws) n f
+
+pub may_run : (words : List (List ℕ)) (order : Order) → meaning_of words ≡ Ok order → MayRun order
+may_run words (orders.Drill n) e = bounded words n e
+may_run words (orders.Source order) e = tt
+may_run words orders.Dump e = tt
+may_run words (orders.Restore order) e = tt
+may_run words orders.Help e = tt
+may_run words orders.Version e = tt

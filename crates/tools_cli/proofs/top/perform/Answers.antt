@@ -1,5 +1,6 @@
 use Rattle.std.proofs.Common.{refl, sym, subst}
 use Rattle.std.specs.Prelude.{Ok}
+use Rattle.drill_run.specs.Drills.{drill_line}
 use Rattle.tools_words.specs.declared.order.Order.{Order}
 use Rattle.tools_cli.specs.declared.texts.TheConstants.{HELP}
 use Rattle.tools_commands.specs.Ends.{turn}
@@ -30,6 +31,14 @@ returns-in-Restore g c =
     let report = turn (g.R.Sink.end c.args.report.now) (g.R.Sink.end c.args.report.now) in
     let P : Order → Type 0 = λ order. Says (Ok order) c.list_archive.result input output report in
     subst P (sym c.in-Restore.is) (restore_says c.in-Restore.order c.list_archive.result input output report c.list_archive.ensures refl)
+
+pub returns-in-Drill : goal.returns-in-Drill
+returns-in-Drill g c =
+    let input = g.S.Source.end c.args.input.now in
+    let output = turn (g.K.Sink.end c.args.output.now) (g.K.Sink.end c.show_drill.new.output) in
+    let report = g.R.Sink.end c.args.report.now in
+    let P : Order → Type 0 = λ order. Says (Ok order) c.show_drill.result (turn input input) output (turn report report) in
+    subst P (sym c.in-Drill.is) (show_says (drill_line c.in-Drill.rounds) c.show_drill.result input output report c.show_drill.ensures)
 
 pub returns-in-Help : goal.returns-in-Help
 returns-in-Help g c =

@@ -1,8 +1,8 @@
 use Rattle.std.proofs.Common.{ap, ◌∙◌}
 use Rattle.coll_state.specs.Rows.{Rows, state_of}
 use Rattle.index_build.specs.Faults.{fault}
-use Rattle.tools_commands.proofs.Faultless.{never_parallel, never_duplicate}
-use Rattle.tools_commands.proofs.source.count_store.Goals as goal
+use Rattle.store_listing.proofs.Faultless.{never_parallel, never_duplicate}
+use Rattle.store_listing.proofs.listing.count_store.Goals as goal
 
 pub unreachable-requires : goal.unreachable-requires
 unreachable-requires c =

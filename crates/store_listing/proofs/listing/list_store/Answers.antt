@@ -2,7 +2,7 @@ use Rattle.std.proofs.Common.{subst, OnErr}
 use Rattle.tool_io.specs.Causes.{AppendsFront}
 use Rattle.coll_state.specs.Rows.{Rows, state_of}
 use Rattle.state_listing.specs.Listing.{listing}
-use Rattle.tools_commands.proofs.source.list_store.Goals as goal
+use Rattle.store_listing.proofs.listing.list_store.Goals as goal
 
 pub returns-clause-err : goal.returns-clause-err
 returns-clause-err g c =
