@@ -11,7 +11,8 @@ use Rattle.copy_model.proofs.Filtered.{same_cut}
 use Rattle.entry_model.specs.Edits.{gathered}
 use Rattle.replay.specs.Moves.{moves_of}
 use Rattle.restore_filter.specs.Names.{takes}
-use Rattle.restore_plan.specs.Base.{base, entries, restored}
+use Rattle.restore_plan.specs.Base.{base, entries, played, restored}
+use Rattle.restore_plan.specs.Taken.{finished}
 use Rattle.history_model.specs.Runs.{run}
 use Rattle.history_model.specs.Histories.{at, reads}
 use Rattle.history_model.specs.Recordings.{reads_in}
@@ -19,7 +20,7 @@ use Rattle.history_model.specs.Laws.{window_before}
 use Rattle.archive_base.specs.Laws.{BaseIsCopy}
 use Rattle.archive_entries.specs.Laws.{EntriesAreTaken}
 use Rattle.metadata_again.specs.Laws.{StartIsReadAgain}
-use Rattle.archive_heals.specs.Laws.{ArchiveHeals}
+use Rattle.archive_heals.specs.Laws.{ArchiveHeals, FinishHeals}
 
 pub heals : StartIsReadAgain → BaseIsCopy → EntriesAreTaken → CutReplay → SameIsShownAlike → ArchiveHeals
 heals again base_is entries_are replayed alike s d h p r ts c =
@@ -30,3 +31,9 @@ heals again base_is entries_are replayed alike s d h p r ts c =
     (λ i. replay_all (entries_are s d h p r.replaying ts c i) (base_is s d (again s d) h p r.plain ts c i)) ∙ replayed f w y in
     let same : SameStates (restored p ts) (cut f (at s p.limit)) = subst (λ (x : State). SameStates x (cut f (at s p.limit))) (sym made) (same_cut f (replay_all w y) (at s p.limit) (h.healed p.limit r.late)) in
     record { same = same; listed = (alike (restored p ts) (cut f (at s p.limit))).0 same }
+
+pub finish_heals : ArchiveHeals → FinishHeals
+finish_heals law s d h p r held t =
+    let ts = t.0 in
+    let made : finished held ≡ restored p ts = (λ i. played (t.1.2 i) (t.1.1.1 i)) in
+    subst (λ (x : State). SameStates x (cut (takes p.filter) (at s p.limit))) (sym made) (law s d h p r ts t.1.0.0).same

@@ -8,6 +8,8 @@ use Rattle.archive_format.specs.Archive.{Taking, Content}
 use Rattle.restore_filter.specs.Names.{takes}
 use Rattle.restore_plan.specs.declared.plan.Plan.{Plan}
 use Rattle.restore_plan.specs.Base.{restored, first_bad}
+use Rattle.restore_plan.specs.Taken.{Contents, finished}
+use Rattle.restore_plan.specs.Outcome.{TakesAll}
 use Rattle.history_model.specs.Runs.{Schedule}
 use Rattle.history_model.specs.Histories.{at}
 use Rattle.history_model.specs.Laws.{IsLate, HealedBefore}
@@ -29,6 +31,10 @@ pub record Heals (s : Schedule) (p : Plan) (ts : List Taking) : Type 0 where
 
 abbrev pub ArchiveHeals : Type 0
 ArchiveHeals = (s : Schedule) → Dumped s → (h : HealedBefore s) → (p : Plan) → Replays p h.last_read → (ts : List Taking) → Content (written s) ts → Heals s p ts
+
+-- and so is the state that `Restore::finish` makes of what a restore holds that has taken all of the archive
+abbrev pub FinishHeals : Type 0
+FinishHeals = (s : Schedule) → Dumped s → (h : HealedBefore s) → (p : Plan) → Replays p h.last_read → (held : Contents) → TakesAll p (written s) held → SameStates (finished held) (cut (takes p.filter) (at s p.limit))
 
 -- and none of its takings is refused
 abbrev pub ArchiveIsTaken : Type 0

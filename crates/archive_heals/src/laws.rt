@@ -1,5 +1,5 @@
 //! The laws of a dump's archive in a restore.
-ghost use Rattle.archive_heals.specs.Laws.{ArchiveHeals, ArchiveIsTaken};
+ghost use Rattle.archive_heals.specs.Laws.{ArchiveHeals, ArchiveIsTaken, FinishHeals};
 
 use archive_base::base_is_copy;
 use archive_entries::entries_are_taken;
@@ -19,6 +19,14 @@ pub fn archive_heals()
     kept_is_read_again();
     cut_is_replayed();
     same_is_shown_alike();
+}
+
+/// So does [`restore_plan::Restore::finish`], whose state is that of what the restore holds: where that is the whole archive, it is the
+/// state just before the limit.
+pub fn finish_heals()
+    ensures { FinishHeals }
+{
+    archive_heals();
 }
 
 /// And it refuses none of what the archive holds.

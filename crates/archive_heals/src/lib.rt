@@ -4,4 +4,4 @@
 
 mod laws;
 
-pub use laws::{archive_heals, archive_is_taken};
+pub use laws::{archive_heals, archive_is_taken, finish_heals};
