@@ -35,5 +35,5 @@ heals again base_is entries_are replayed alike s d h p r ts c =
 pub finish_heals : ArchiveHeals → FinishHeals
 finish_heals law s d h p r held t =
     let ts = t.0 in
-    let made : finished held ≡ restored p ts = (λ i. played (t.1.2 i) (t.1.1.1 i)) in
-    subst (λ (x : State). SameStates x (cut (takes p.filter) (at s p.limit))) (sym made) (law s d h p r ts t.1.0.0).same
+    let made : finished held ≡ restored p ts = (λ i. played (t.3 i) (t.2 i)) in
+    subst (λ (x : State). SameStates x (cut (takes p.filter) (at s p.limit))) (sym made) (law s d h p r ts t.1.0).same
