@@ -2,7 +2,7 @@
 ghost use Rattle.drill_run.specs.Restores.{DrillsHeal};
 
 use archive_length::archives_are_short;
-use done_dumps::{plain_dumps_are_done, started_dumps, unmarked_end_last};
+use done_dumps::{dumps_start, plain_dumps_are_done, unmarked_dumps_end_last};
 use drill_schedule::{drills_are_plain, drills_are_schedules};
 use restore_filter::names_stay;
 use restored_dump::archive_restores;
@@ -16,8 +16,8 @@ pub fn drills_heal()
     drills_are_schedules();
     drills_are_plain();
     plain_dumps_are_done();
-    started_dumps();
-    unmarked_end_last();
+    dumps_start();
+    unmarked_dumps_end_last();
     read_is_dumped();
     archives_are_short();
     names_stay();
