@@ -1,5 +1,5 @@
 -- Bytes that stand in the lines of a drill, and the digits of its numbers.
-use Rattle.std.proofs.Common.{◌≡◌, ◌≢◌, ℕ, zero, suc, ◌+◌, ◌<◌, ◌≤◌, ◌^◌, Bool, true, false, ◌&&◌, ◌||◌, eqb, ltb, leb, List, [], ◌∷◌, ◌++◌, length, get_or, refl, sym, ap, ◌∙◌, arith}
+use Rattle.std.proofs.Common.{◌≡◌, ◌≢◌, ℕ, zero, suc, ◌+◌, ◌<◌, ◌≤◌, Bool, true, false, ◌&&◌, eqb, ltb, leb, List, [], ◌∷◌, ◌++◌, length, get_or, refl, ap, ◌∙◌, arith}
 use Rattle.std.specs.Prelude.{pos, not, Some, Ok}
 use Rattle.std.specs.Char.{is_ascii_digit}
 use Rattle.std.specs.Fmt.{decimal}
@@ -64,6 +64,9 @@ plain_zero t h = rw (none_zero t h) refl
 pub record IsShort (most : ℕ) (t : List ℕ) : Type 0 where
   pub plain : ArePlain t
   pub few : length t ≤ most
+
+pub short_none : IsShort 0 []
+short_none = record { plain = refl; few = omega arith }
 
 pub short_text : (t : List ℕ) → ArePlain t → IsShort (length t) t
 short_text t h = record { plain = h; few = omega arith }

@@ -82,8 +82,8 @@ unfolding items_value
 one_item {levels} {ps} {v} s = record {
   tree = trees.Items (s.tree ∷ []);
   prints =
-  ap text_of (sym (trees.rolls-Items (s.tree ∷ []))) ∙ print_at (Tree-F.Items (s.tree ∷ []))
-  ∙ ap (λ (t : List ℕ). 91 ∷ (t ++ 93 ∷ [])) (append-nil (text_of s.tree) ∙ s.prints) ∙ ap (λ (t : List ℕ). 91 ∷ t) (sym (joined_both ps (codes "]" ∷ [])));
+      ap text_of (sym (trees.rolls-Items (s.tree ∷ []))) ∙ print_at (Tree-F.Items (s.tree ∷ []))
+      ∙ ap (λ (t : List ℕ). 91 ∷ (t ++ 93 ∷ [])) (append-nil (text_of s.tree) ∙ s.prints) ∙ ap (λ (t : List ℕ). 91 ∷ t) (sym (joined_both ps (codes "]" ∷ [])));
   formed = well_items (s.tree ∷ []) (s.formed, tt);
   shallow = omega (arith, of_items (s.tree ∷ []), s.shallow);
   reads = value_items (s.tree ∷ []) ∙ rw s.reads refl;
@@ -132,8 +132,8 @@ object {levels} {ps} {qs} {v} {fs} name p s f d w =
     record {
       tree = trees.Object all.members;
       prints =
-      ap text_of (sym (trees.rolls-Object all.members)) ∙ print_at (Tree-F.Object all.members) ∙ ap (λ (t : List ℕ). 123 ∷ (t ++ 125 ∷ [])) inner
-      ∙ ap (λ (t : List ℕ). 123 ∷ t) (append_assoc (label name) (joined (ps ++ qs)) (125 ∷ []) ∙ ap (λ (t : List ℕ). label name ++ t) (sym (joined_both (ps ++ qs) (codes "}" ∷ []))));
+          ap text_of (sym (trees.rolls-Object all.members)) ∙ print_at (Tree-F.Object all.members) ∙ ap (λ (t : List ℕ). 123 ∷ (t ++ 125 ∷ [])) inner
+          ∙ ap (λ (t : List ℕ). 123 ∷ t) (append_assoc (label name) (joined (ps ++ qs)) (125 ∷ []) ∙ ap (λ (t : List ℕ). label name ++ t) (sym (joined_both (ps ++ qs) (codes "}" ∷ []))));
       formed = well_entries all.members (subst AreDistinct (sym all.names) d) all.formed;
       shallow = omega (arith, of_object all.members, all.shallow);
       reads = value_object all.members ∙ plain_object all.members (all.wrappers ∙ w) ∙ rw all.reads refl;

@@ -1,6 +1,6 @@
 -- All lines of a drill, and its text.
-use Rattle.std.proofs.Common.{◌≡◌, ◌≢◌, ℕ, zero, suc, ◌+◌, ◌*◌, ◌/◌, ◌^◌, ◌<◌, ◌≤◌, true, false, eqb, List, [], ◌∷◌, ◌++◌, length, None, Ok, refl, sym, ap, ◌∙◌, subst, inl, inr, arith, append_assoc}
-use Rattle.std.specs.Prelude.{codes, ◌==◌, if◌then◌else◌}
+use Rattle.std.proofs.Common.{◌≡◌, ℕ, zero, suc, ◌+◌, ◌*◌, ◌/◌, ◌^◌, ◌<◌, ◌≤◌, List, [], ◌∷◌, ◌++◌, length, None, refl, sym, ap, ◌∙◌, subst, inl, inr, arith, append_assoc}
+use Rattle.std.specs.Prelude.{codes, ◌==◌}
 use Rattle.std.specs.Fmt.{decimal}
 use Rattle.std.specs.Str.Parse.{digits_value}
 use Rattle.std.proofs.lemmas.Bool.{cases_Bool}
@@ -12,16 +12,15 @@ use Rattle.extjson.proofs.Wholes.{own}
 use Rattle.json_text.specs.Printing.{PrintIsJson}
 use Rattle.schedule_model.specs.declared.line.Line.{Line}
 use Rattle.schedule_model.specs.declared.line.Line.TheVariants as lines
-use Rattle.schedule_text.specs.DrillText.{next, drawn, start, row_of, lines_at, rows, creations, drill_text}
-use Rattle.schedule_text.specs.Grammar.{AreLines, ended, numbered, IsCap, IsRead, capped, IsSchedule}
+use Rattle.schedule_text.specs.DrillText.{next, drawn, start, row_of, rows, creations, drill_text}
+use Rattle.schedule_text.specs.Grammar.{AreLines, ended, IsCap, capped, IsSchedule}
 use Rattle.schedule_text.specs.Laws.{SchedulesAreRead}
-use Rattle.schedule_text.proofs.LineEnds.{lacks_last}
 use Rattle.drill_schedule.specs.Drills.{create, creates, starts, drawn_line, places, drill}
 use Rattle.drill_schedule.specs.Laws.{DrillsAreSchedules}
 use Rattle.drill_schedule.proofs.Bytes.{plain_text, short_text, short_both, short_within, short_number}
 use Rattle.drill_schedule.proofs.Counts.{lines_counted}
-use Rattle.drill_schedule.proofs.Lines.{says_command, says_step, IsRow, AreRows, no_rows, one_row, rows_lines, rows_steps, rows_bytes, rows_count}
-use Rattle.drill_schedule.proofs.Rows.{named, is_name, IsLineOf, action_line}
+use Rattle.drill_schedule.proofs.Lines.{says_command, says_step, AreRows, no_rows, one_row, rows_lines, rows_steps, rows_bytes, rows_count}
+use Rattle.drill_schedule.proofs.Rows.{named, is_name, IsLineOf, drawn_row}
 
 -- the text has these lines of a schedule
 record Has (text : List ℕ) (xs : List Line) : Type 0 where
@@ -50,7 +49,7 @@ has_start n i h =
 
 module _ (json : PrintIsJson) (n : ℕ) (some : 1 ≤ n) (few : n ≤ 100000) where
   place_line : (i a b c : ℕ) → i ≤ n → IsLineOf (row_of n i a b c) (drawn_line n i a b c)
-  place_line i a b c le = action_line json (drawn 4 b) (omega arith) (drawn 10 a) (drawn n c) i (omega (arith, some, few)) (omega (arith, le, few))
+  place_line i a b c le = drawn_row json (drawn 4 b) (omega arith) (drawn 10 a) (drawn n c) i (omega (arith, some, few)) (omega (arith, le, few))
 
   has_places : (left i g : ℕ) → i + left ≤ n + 1 → Has (rows n left i g) (places n left i g)
   unfolding rows places
@@ -65,7 +64,11 @@ module _ (json : PrintIsJson) (n : ℕ) (some : 1 ≤ n) (few : n ≤ 100000) wh
 create_line : (j : ℕ) → j ≤ 100000 → IsLineOf ((codes "create d.c" ++ decimal j) ++ codes "\n") (create j)
 create_line j le = record {
   bytes = codes "create d.c" ++ decimal j;
-  row = record { short = short_within (omega arith) (short_both (short_text (codes "create d.c") refl) (short_number j le)); some = λ p. cc; says = says_command (inl ((named j, is_name j le, refl), refl)) };
+  row = record {
+    short = short_within (omega arith) (short_both (short_text (codes "create d.c") refl) (short_number j le));
+    some = λ p. cc;
+    says = says_command (inl ((named j, is_name j le, refl), refl));
+  };
   ends = refl;
 }
 

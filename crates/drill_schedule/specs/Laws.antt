@@ -1,5 +1,5 @@
 -- The laws of drills.
-use Rattle.std.specs.Prelude.{◌≡◌, ℕ, ◌+◌, ◌≤◌, List, [], length, Ok}
+use Rattle.std.specs.Prelude.{◌≡◌, ℕ, ◌+◌, ◌≤◌, [], length, Ok}
 use Rattle.std.specs.List.{AllByRecursion}
 use Rattle.schedule_model.specs.declared.command.Command.TheVariants as commands
 use Rattle.schedule_model.specs.declared.line.Line.{Line}
