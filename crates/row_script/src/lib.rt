@@ -2,9 +2,12 @@
 //! `VERB TEXT = ANSWER`. A line without ` = ` wants the empty answer. Empty lines and lines that begin with `#` are passed over.
 #![tactic(auto)]
 
+mod texts;
+
 use anyhow::{Context, Result, bail};
 use std::alloc::Global;
 use std::io::{Read, Write};
+pub use texts::{answer, bytes, digits, number, refused, truth, words};
 
 /// What answers the rows of a script.
 pub trait Respondent {
