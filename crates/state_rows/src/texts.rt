@@ -1,0 +1,43 @@
+//! Namespaces, values and documents from texts.
+use anyhow::Result;
+use bson_value::{CText, Doc, NsName, Value};
+use extjson::value_of;
+use json_text::parse;
+use row_script::refused;
+use std::alloc::Global;
+
+pub fn namespace(alloc: Global, text: &str) -> Result<NsName> {
+    match NsName::split(alloc, text)? {
+        Some(ns) => Ok(ns),
+        None => refused("no namespace"),
+    }
+}
+
+/// The value that the text writes.
+pub fn value(alloc: Global, text: &str) -> Result<Value> {
+    Ok(value_of(alloc, &parse(alloc, text)?)?)
+}
+
+/// The document that the text writes.
+pub fn document(alloc: Global, text: &str) -> Result<Doc> {
+    match value(alloc, text)? {
+        Value::Object(doc) => Ok(doc),
+        _ => refused("no document"),
+    }
+}
+
+// A document with this value alone.
+fn around(alloc: Global, value: Value) -> Result<Value> {
+    let mut doc = Doc::new(alloc);
+    doc.set(CText::of_text(alloc, "d")?, value)?;
+    Ok(Value::Object(doc))
+}
+
+/// So many documents, one in the other.
+pub fn levels(alloc: Global, count: usize) -> Result<Value> {
+    let mut value = Value::Null;
+    for _ in 0..count {
+        value = around(alloc, value)?;
+    }
+    Ok(value)
+}
