@@ -208,32 +208,6 @@ module _ (n : ℕ) (es : List Edit) where
       both_put old one now v (fields_of Length es ++ d) first (both_put one two now (fields_of Length es) d b whole)
       ∙ ap (λ (fs : Fields). old ++ elements_of fs) (λ k. (a_name, Truth true) ∷ (lengths k ++ each k))
 
--- ---- one part of an array
-
-pub without_below : (n : ℕ) (g : Group) (inner : List Edit) (old one : List ℕ) → inner ≡ group g.0 g.1 → inner ≡ [] → one ≡ old ++ elements_of (picked (λ e. set_at g.0 e.0 e.1) g.1) → one ≡ old ++ elements_of (fields_at n g)
-without_below n g inner old one is none a =
-    let set : Fields = picked (λ e. set_at g.0 e.0 e.1) g.1 in
-    let empty : [] ≡ group g.0 g.1 = sym none ∙ is in
-    a ∙ ap (λ (fs : Fields). old ++ elements_of fs) (sym (append-nil set) ∙ (λ k. set ++ below (go n g.1) g.0 (empty k)))
-
-pub with_below : (n : ℕ) (g : Group) (inner : List Edit) (old one two : List ℕ) → inner ≡ group g.0 g.1 → (inner ≡ [] → ⊥) → one ≡ old ++ elements_of (picked (λ e. set_at g.0 e.0 e.1) g.1) → two ≡ one ++ elements_of ((s_of g.0, Object (diff n inner)) ∷ []) → two ≡ old ++ elements_of (fields_at n g)
-with_below n g inner old one two is some a b =
-    let set : Fields = picked (λ e. set_at g.0 e.0 e.1) g.1 in
-    both_put old one two set ((s_of g.0, Object (diff n inner)) ∷ []) a b
-    ∙ ap (λ (fs : Fields). old ++ elements_of (set ++ fs)) (ap (λ (es : List Edit). (s_of g.0, Object (diff n es)) ∷ []) is ∙ by (group g.0 g.1) (λ e. some (is ∙ e)))
-  where
-    by : (es : List Edit) → (es ≡ [] → ⊥) → (s_of g.0, Object (go n g.1 g.0)) ∷ [] ≡ below (go n g.1) g.0 es
-    by [] k = absurd (k refl)
-    by (e ∷ es) k = refl
-
--- ---- the whole
-
-pub second_form : (ts : List Touch) (es : List Edit) (old one two : List ℕ) → es ≡ mapped edit_of ts → one ≡ old ++ element (v_name, spelling (Int (pos 2))) → two ≡ one ++ document_element diff_name (elements_of (diff 200 es)) → two ≡ old ++ elements_of (spelled_v2 200 (mapped edit_of ts))
-second_form ts es old one two is a b =
-    both_put old one two ((v_name, Int (pos 2)) ∷ []) ((diff_name, Object (diff 200 es)) ∷ []) (as_fields old one v_name (Int (pos 2)) a)
-    (b ∙ ap (λ (l : List ℕ). one ++ l) (field_is diff_name (diff 200 es)))
-    ∙ ap (λ (ds : List Edit). old ++ elements_of (spelled_v2 200 ds)) is
-
 -- ---- whether there are edits
 
 is_zero : (n : ℕ) → (n == 0) ≡ true → n ≡ 0
@@ -249,3 +223,37 @@ no_edits (x ∷ xs) n b e m t = by n m (sym e ∙ t)
 pub some_edits : (xs : List Held) (n : ℕ) (b : Bool) → b ≡ (n == 0) → n ≡ length xs → b ≡ false → edits_in xs ≡ [] → ⊥
 some_edits [] n b e m t k = let z : n ≡ 0 = m in let y : (n == 0) ≡ true = ap (λ (i : ℕ). i == 0) z in let w : true ≡ false = sym y ∙ (sym e ∙ t) in cc
 some_edits (x ∷ xs) n b e m t k = cc
+
+-- ---- one part of an array
+
+pub without_below : (n : ℕ) (g : PartEdits) (es ms inner : List Held) (old one : List ℕ) → es ≡ g.edits.items → ms ≡ g.edits.items → edits_in inner ≡ group g.part.now (edits_in ms) → edits_in inner ≡ [] →
+    one ≡ old ++ elements_of (picked (λ e. set_at g.part.now e.0 e.1) (edits_in es)) → one ≡ old ++ elements_of (fields_at n (group_in g))
+without_below n g es ms inner old one e m is none a =
+    let r : Part = g.part.now in
+    let ds : List Edit = edits_in g.edits.items in
+    let set : Fields = picked (λ e. set_at r e.0 e.1) ds in
+    let empty : [] ≡ group r ds = sym none ∙ (is ∙ ap (λ (l : List Held). group r (edits_in l)) m) in
+    a ∙ (ap (λ (l : List Held). old ++ elements_of (picked (λ e. set_at r e.0 e.1) (edits_in l))) e
+    ∙ ap (λ (fs : Fields). old ++ elements_of fs) (sym (append-nil set) ∙ (λ k. set ++ below (go n ds) r (empty k))))
+
+pub with_below : (n : ℕ) (g : PartEdits) (es ms inner ns : List Held) (old one two : List ℕ) → es ≡ g.edits.items → ms ≡ g.edits.items → ns ≡ inner → edits_in inner ≡ group g.part.now (edits_in ms) → (edits_in inner ≡ [] → ⊥) →
+    one ≡ old ++ elements_of (picked (λ e. set_at g.part.now e.0 e.1) (edits_in es)) → two ≡ one ++ elements_of ((s_of g.part.now, Object (diff n (edits_in ns))) ∷ []) → two ≡ old ++ elements_of (fields_at n (group_in g))
+with_below n g es ms inner ns old one two e m w is some a b =
+    let r : Part = g.part.now in
+    let ds : List Edit = edits_in g.edits.items in
+    let set : Fields = picked (λ e. set_at r e.0 e.1) ds in
+    let same : edits_in inner ≡ group r ds = is ∙ ap (λ (l : List Held). group r (edits_in l)) m in
+    both_put old one two set ((s_of r, Object (diff n (edits_in ns))) ∷ []) (a ∙ ap (λ (l : List Held). old ++ elements_of (picked (λ e. set_at r e.0 e.1) (edits_in l))) e) b
+    ∙ ap (λ (fs : Fields). old ++ elements_of (set ++ fs)) (ap (λ (l : List Edit). (s_of r, Object (diff n l)) ∷ []) (ap edits_in w ∙ same) ∙ by r ds (group r ds) (λ e. some (same ∙ e)))
+  where
+    by : (r : Part) (ds es : List Edit) → (es ≡ [] → ⊥) → (s_of r, Object (go n ds r)) ∷ [] ≡ below (go n ds) r es
+    by r ds [] k = absurd (k refl)
+    by r ds (e ∷ es) k = refl
+
+-- ---- the whole
+
+pub second_form : (ts : List Touch) (es : List Edit) (old one two : List ℕ) → es ≡ mapped edit_of ts → one ≡ old ++ element (v_name, spelling (Int (pos 2))) → two ≡ one ++ document_element diff_name (elements_of (diff 200 es)) → two ≡ old ++ elements_of (spelled_v2 200 (mapped edit_of ts))
+second_form ts es old one two is a b =
+    both_put old one two ((v_name, Int (pos 2)) ∷ []) ((diff_name, Object (diff 200 es)) ∷ []) (as_fields old one v_name (Int (pos 2)) a)
+    (b ∙ ap (λ (l : List ℕ). one ++ l) (field_is diff_name (diff 200 es)))
+    ∙ ap (λ (ds : List Edit). old ++ elements_of (spelled_v2 200 ds)) is

@@ -1,13 +1,10 @@
-use Rattle.std.proofs.Common.{◌≡◌, ℕ, List, [], ◌∷◌, ◌++◌, ap, ◌∙◌, true}
+use Rattle.std.proofs.Common.{◌≡◌, ℕ, List, ◌++◌, ap, ◌∙◌, true}
 use Rattle.std.proofs.lemmas.Result.{on_ok_weaker}
 use Rattle.bson_value.specs.Spelling.{elements_of}
-use Rattle.bson_value.specs.declared.value.Value.{Object}
-use Rattle.entry_model.specs.Edits.{picked, group}
-use Rattle.entry_model.specs.Written.{s_of, set_at, diff}
-use Rattle.entry_writer.specs.declared.edits.Edit.{Edit as Held}
+use Rattle.entry_model.specs.Written.{s_of, diff}
 use Rattle.entry_writer.specs.Elements.{opening}
 use Rattle.entry_writer.specs.Edits.{edits_in}
-use Rattle.entry_writer.specs.Groups.{group_in, groups_in, field_below, fields_at}
+use Rattle.entry_writer.specs.Groups.{groups_in, field_below, fields_at}
 use Rattle.entry_writer.specs.Order.{risen}
 use Rattle.entry_writer.proofs.Bytes.{closed, field_is}
 use Rattle.entry_writer.proofs.Diffs.{grouped_once, fields_put, gathered_put, document_put, array_put, with_below, without_below, no_edits, some_edits}
@@ -38,23 +35,16 @@ put_document_diff-loop-group-preserved t c =
 
 pub put_at_part-returns-then-is_empty : goal.put_at_part-returns-then-is_empty
 put_at_part-returns-then-is_empty t c =
-    let r = c.args.group.now.part.now in
     let inner = c.in_ok-inner.inner in
-    without_below c.args.levels (group_in c.args.group.now) (edits_in inner.items) c.args.out.now.items c.put_elements_at.new.out.items
-    (c.in_ok-inner.ensures ∙ ap (λ (es : List Held). group r (edits_in es)) c.as_slice-2.ensures.value)
-    (no_edits inner.items _ _ c.is_empty.ensures inner.ok.0 c.if-is_empty.true)
-    (c.in_ok-put_elements_at.ensures ∙ ap (λ (es : List Held). c.args.out.now.items ++ elements_of (picked (λ e. set_at r e.0 e.1) (edits_in es))) c.as_slice.ensures.value)
+    without_below c.args.levels c.args.group.now c.as_slice.result.now c.as_slice-2.result.now inner.items c.args.out.now.items c.put_elements_at.new.out.items
+    c.as_slice.ensures.value c.as_slice-2.ensures.value c.in_ok-inner.ensures (no_edits inner.items _ _ c.is_empty.ensures inner.ok.0 c.if-is_empty.true) c.in_ok-put_elements_at.ensures
 
 pub put_at_part-returns : goal.put_at_part-returns
 put_at_part-returns t c =
-    let r = c.args.group.now.part.now in
     let inner = c.in_ok-inner.inner in
     on_ok_weaker c.put_below.result
-    (λ h. with_below c.args.levels (group_in c.args.group.now) (edits_in inner.items) c.args.out.now.items c.put_elements_at.new.out.items c.put_below.new.out.items
-    (c.in_ok-inner.ensures ∙ ap (λ (es : List Held). group r (edits_in es)) c.as_slice-2.ensures.value)
-    (some_edits inner.items _ _ c.is_empty.ensures inner.ok.0 c.if-is_empty.false)
-    (c.in_ok-put_elements_at.ensures ∙ ap (λ (es : List Held). c.args.out.now.items ++ elements_of (picked (λ e. set_at r e.0 e.1) (edits_in es))) c.as_slice.ensures.value)
-    (h ∙ ap (λ (es : List Held). c.put_elements_at.new.out.items ++ elements_of ((s_of r, Object (diff c.args.levels (edits_in es))) ∷ [])) c.as_slice-3.ensures.value))
+    (λ h. with_below c.args.levels c.args.group.now c.as_slice.result.now c.as_slice-2.result.now inner.items c.as_slice-3.result.now c.args.out.now.items c.put_elements_at.new.out.items c.put_below.new.out.items
+    c.as_slice.ensures.value c.as_slice-2.ensures.value c.as_slice-3.ensures.value c.in_ok-inner.ensures (some_edits inner.items _ _ c.is_empty.ensures inner.ok.0 c.if-is_empty.false) c.in_ok-put_elements_at.ensures h)
     c.put_below.ensures
 
 pub put_below-returns : goal.put_below-returns
