@@ -1,4 +1,4 @@
-//! The calls of a script:
+//! The calls of a script, by their verbs:
 //!
 //! - `new N`: a new store, whose oplog holds N entries, and no dump; `fail N`: the write of this number, from 0, to the sink of the next
 //!   dump fails.
@@ -10,6 +10,7 @@
 use anyhow::{Result, bail};
 use bson_value::NsName;
 use dump_run::{Dump, DumpFault};
+use row_script::Respondent;
 use schedule_model::Line;
 use schedule_text::Schedule;
 use std::alloc::Global;
@@ -156,10 +157,10 @@ impl Calls {
             Err(fault) => told(alloc, Err(fault)),
         }
     }
+}
 
-    /// What a call answers.
-    pub fn answer(&mut self, alloc: Global, call: &str) -> Result<String> {
-        let (verb, text) = call.split_once(' ').unwrap_or((call, ""));
+impl Respondent for Calls {
+    fn answer(&mut self, alloc: Global, verb: &str, text: &str) -> Result<String> {
         match verb {
             "new" => {
                 let cap = text.parse::<usize>()?.max(1).min(1_000_000);
