@@ -1,23 +1,20 @@
 -- The dump of a drill is done, and its archive restores to what is listed as the source.
-use Rattle.std.proofs.Common.{◌≡◌, ℕ, suc, ◌+◌, ◌*◌, ◌≤◌, List, [], ◌∷◌, length, refl, sym, ap, subst, ◌∙◌, arith, Some, None, true, map as each}
+use Rattle.std.proofs.Common.{◌≡◌, ℕ, suc, ◌≤◌, List, [], ◌∷◌, length, refl, ap, ◌∙◌, arith, None, true, map as each}
 use Rattle.std.specs.List.{AllByRecursion}
 use Rattle.bson_value.specs.declared.namespace.NsName.{NsName}
-use Rattle.bson_value.specs.declared.value.Ts.{Ts}
 use Rattle.document_lines.specs.declared.form.ListForm.TheVariants.{Hex}
 use Rattle.state_model.specs.States.{State}
 use Rattle.state_listing.specs.Listing.{listing}
 use Rattle.restore_filter.specs.Names.{takes}
 use Rattle.restore_filter.specs.Laws.{NamesStay}
-use Rattle.schedule_model.specs.declared.command.Command.{Command}
 use Rattle.schedule_model.specs.declared.command.Command.TheVariants as commands
 use Rattle.schedule_model.specs.declared.line.Line.{Line}
 use Rattle.schedule_model.specs.declared.line.Line.TheVariants as lines
 use Rattle.schedule_text.specs.DrillText.{drill_text}
 use Rattle.schedule_text.specs.declared.schedule.NumberedLine.{NumberedLine}
 use Rattle.schedule_report.specs.Schedules.{numbered}
-use Rattle.history_model.specs.Runs.{Schedule, Done}
-use Rattle.history_model.specs.Histories.{moments, outcome, at, before}
-use Rattle.dump_model.specs.Archives.{written}
+use Rattle.history_model.specs.Runs.{Done}
+use Rattle.history_model.specs.Histories.{outcome, at, before}
 use Rattle.dump_content.specs.Laws.{Dumped}
 use Rattle.archive_heals.specs.Laws.{Replays}
 use Rattle.schedule_bounds.specs.Laws.{ReadIsDumped}

@@ -1,8 +1,7 @@
 -- The line of a drill: what its dump counts, and that what is restored of its archive is the source.
-use Rattle.std.specs.Prelude.{ℕ, ◌+◌, List, [], ◌++◌, length, codes, Option, Some, None}
+use Rattle.std.specs.Prelude.{ℕ, ◌+◌, List, [], ◌++◌, length, codes, Some, None}
 use Rattle.std.specs.FinMap as map
 use Rattle.std.specs.Fmt.{decimal}
-use Rattle.bson_value.specs.declared.value.Ts.{Ts}
 use Rattle.history_model.specs.Entries.{OplogEntry}
 use Rattle.history_model.specs.Runs.{Schedule, run, window, entries_from}
 use Rattle.history_model.specs.Histories.{Moments, moments, before, reads, documents_in}

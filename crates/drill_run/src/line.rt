@@ -29,11 +29,7 @@ fn dump_text(alloc: Global, counts: Counts) -> Result<String, AllocError>
 }
 
 /// The line of these counts, with a word that says whether what was restored is the source.
-pub(crate) fn counts_line(
-    alloc: Global,
-    counts: Counts,
-    equal: &str,
-) -> Result<String, AllocError>
+pub(crate) fn counts_line(alloc: Global, counts: Counts, equal: &str) -> Result<String, AllocError>
     ensures { IfOk result (λ s. string_bytes s ≡ counts_line counts equal.now) }
 {
     let text = dump_text(alloc, counts)?;
