@@ -1,36 +1,33 @@
 -- The dump of a drill is done, and its archive restores to what is listed as the source.
-use Rattle.std.proofs.Common.{◌≡◌, ℕ, ◌+◌, ◌*◌, ◌≤◌, List, [], ◌∷◌, length, refl, sym, ap, subst, ◌∙◌, arith, Some, None, true, map as each}
+use Rattle.std.proofs.Common.{◌≡◌, ℕ, suc, ◌≤◌, List, [], ◌∷◌, length, refl, ap, ◌∙◌, arith, None, true, map as each}
 use Rattle.std.specs.List.{AllByRecursion}
 use Rattle.bson_value.specs.declared.namespace.NsName.{NsName}
-use Rattle.bson_value.specs.declared.value.Ts.{Ts}
 use Rattle.document_lines.specs.declared.form.ListForm.TheVariants.{Hex}
 use Rattle.state_model.specs.States.{State}
 use Rattle.state_listing.specs.Listing.{listing}
 use Rattle.restore_filter.specs.Names.{takes}
 use Rattle.restore_filter.specs.Laws.{NamesStay}
-use Rattle.schedule_model.specs.declared.command.Command.{Command}
 use Rattle.schedule_model.specs.declared.command.Command.TheVariants as commands
 use Rattle.schedule_model.specs.declared.line.Line.{Line}
 use Rattle.schedule_model.specs.declared.line.Line.TheVariants as lines
 use Rattle.schedule_text.specs.DrillText.{drill_text}
 use Rattle.schedule_text.specs.declared.schedule.NumberedLine.{NumberedLine}
 use Rattle.schedule_report.specs.Schedules.{numbered}
-use Rattle.history_model.specs.Runs.{Schedule, Done}
-use Rattle.history_model.specs.Histories.{moments, outcome, at, before}
-use Rattle.dump_model.specs.Archives.{written}
+use Rattle.history_model.specs.Runs.{Done}
+use Rattle.history_model.specs.Histories.{outcome, at, before}
 use Rattle.dump_content.specs.Laws.{Dumped}
 use Rattle.archive_heals.specs.Laws.{Replays}
 use Rattle.schedule_bounds.specs.Laws.{ReadIsDumped}
 use Rattle.archive_length.specs.Laws.{ArchivesAreShort}
 use Rattle.restored_dump.specs.Laws.{ArchiveRestores}
 use Rattle.restored_source.specs.Laws.{ReplaysDump, ListsWholeSource}
-use Rattle.done_dumps.specs.Laws.{RenamesNone, RenameNone, IsNoMark, MarkNone, Plain, PlainDumpsAreDone, DumpsStart, UnmarkedStatesAreLast}
+use Rattle.done_dumps.specs.Laws.{IsNoRenameLine, AreNoRenames, IsNoMark, AreNoMarks, Plain, PlainDumpsAreDone, DumpsStart, UnmarkedStatesAreLast}
 use Rattle.drill_schedule.specs.Drills.{drill}
 use Rattle.drill_schedule.specs.Laws.{IsPlainLine, DrillsAreSchedules, DrillsArePlain, DrillsHaveLines}
 use Rattle.drill_run.specs.Drills.{drilled}
 use Rattle.drill_run.specs.Restores.{whole_plan, DrillsHeal}
 
-no_rename : (l : Line) → IsPlainLine l → RenamesNone l
+no_rename : (l : Line) → IsPlainLine l → IsNoRenameLine l
 no_rename (lines.Cmd (commands.Create ns options)) p = tt
 no_rename (lines.Cmd (commands.Document d)) p = tt
 no_rename (lines.Cmd (commands.At s)) p = absurd p
@@ -53,20 +50,20 @@ no_mark (lines.Copy ns n) p = tt
 no_mark lines.Mark p = absurd p
 no_mark (lines.Tail n) p = absurd p
 
-AreAllPlain : List NumberedLine → Type 0
+abbrev AreAllPlain : List NumberedLine → Type 0
 AreAllPlain ls = AllByRecursion (λ l. IsPlainLine l.line) ls
 
-none_renames : (ls : List NumberedLine) → AreAllPlain ls → RenameNone (each numbered ls)
+none_renames : (ls : List NumberedLine) → AreAllPlain ls → AreNoRenames (each numbered ls)
 none_renames [] p = tt
 none_renames (l ∷ ls) p = (no_rename l.line p.0, none_renames ls p.1)
 
-none_marks : (ls : List NumberedLine) → AreAllPlain ls → MarkNone (each numbered ls)
+none_marks : (ls : List NumberedLine) → AreAllPlain ls → AreNoMarks (each numbered ls)
 none_marks [] p = tt
 none_marks (l ∷ ls) p = (no_mark l.line p.0, none_marks ls p.1)
 
 as_many : (ls : List NumberedLine) → length (each numbered ls) ≡ length ls
 as_many [] = refl
-as_many (l ∷ ls) = ap (λ (n : ℕ). 1 + n) (as_many ls)
+as_many (l ∷ ls) = ap suc (as_many ls)
 
 cap_is : (n : ℕ) → (drill n).cap ≡ 1000000
 unfolding drill

@@ -1,1 +1,3 @@
 pub mod Healing
+pub mod Refusing
+pub mod Reported

@@ -1,8 +1,7 @@
 -- The line of a drill: what its dump counts, and that what is restored of its archive is the source.
-use Rattle.std.specs.Prelude.{ℕ, ◌+◌, List, [], ◌++◌, length, codes, Option, Some, None}
+use Rattle.std.specs.Prelude.{ℕ, ◌+◌, List, [], ◌++◌, length, codes, Some, None}
 use Rattle.std.specs.FinMap as map
 use Rattle.std.specs.Fmt.{decimal}
-use Rattle.bson_value.specs.declared.value.Ts.{Ts}
 use Rattle.history_model.specs.Entries.{OplogEntry}
 use Rattle.history_model.specs.Runs.{Schedule, run, window, entries_from}
 use Rattle.history_model.specs.Histories.{Moments, moments, before, reads, documents_in}
@@ -18,10 +17,7 @@ drilled n = schedule_in (drill n)
 
 -- the entries of the window
 abbrev pub window_of : Moments → List OplogEntry → List OplogEntry
-window_of m es = elim m.start [
-  None ↦ []
-| Some start ↦ elim m.end_ts [ None ↦ [] | Some end ↦ window start end es ]
-]
+window_of m es = elim m.start [ None ↦ [] | Some start ↦ elim m.end_ts [ None ↦ [] | Some last ↦ window start last es ] ]
 
 -- the lines of its text, of which the first one has the cap; the documents that its dump reads, and the entries in its window; the collections of the source; and the bytes of the archive
 abbrev pub counts_of : ℕ → Counts
@@ -33,9 +29,11 @@ counts_of n = record {
   bytes = length (written (drilled n));
 }
 
+abbrev pub dump_text : Counts → List ℕ
+dump_text c = codes "lines " ++ (decimal c.lines ++ (codes " documents " ++ (decimal c.documents ++ (codes " entries " ++ decimal c.entries))))
+
 abbrev pub counts_line : Counts → List ℕ → List ℕ
-counts_line c equal =
-    codes "lines " ++ (decimal c.lines ++ (codes " documents " ++ (decimal c.documents ++ (codes " entries " ++ (decimal c.entries ++ (codes " namespaces " ++ (decimal c.namespaces ++ (codes " bytes " ++ (decimal c.bytes ++ (codes " equal " ++ (equal ++ codes "\n")))))))))))
+counts_line c equal = dump_text c ++ (codes " namespaces " ++ (decimal c.namespaces ++ (codes " bytes " ++ (decimal c.bytes ++ (codes " equal " ++ (equal ++ codes "\n"))))))
 
 -- what a drill tells
 abbrev pub drill_line : ℕ → List ℕ

@@ -1,6 +1,6 @@
 //! The line of a drill.
 ghost use Rattle.std.specs.Prelude.{◌≡◌, IfOk, string_bytes};
-ghost use Rattle.drill_run.specs.Drills.{counts_line};
+ghost use Rattle.drill_run.specs.Drills.{dump_text, counts_line};
 
 use std::alloc::{AllocError, Global};
 
@@ -19,18 +19,21 @@ pub(crate) struct Counts {
     pub bytes: usize,
 }
 
+fn dump_text(alloc: Global, counts: Counts) -> Result<String, AllocError>
+    ensures { IfOk result (λ s. string_bytes s ≡ dump_text counts) }
+{
+    let lines = counts.lines;
+    let documents = counts.documents;
+    let entries = counts.entries;
+    format!(in alloc; "lines {lines} documents {documents} entries {entries}")
+}
+
 /// The line of these counts, with a word that says whether what was restored is the source.
 pub(crate) fn counts_line(alloc: Global, counts: Counts, equal: &str) -> Result<String, AllocError>
     ensures { IfOk result (λ s. string_bytes s ≡ counts_line counts equal.now) }
 {
-    let Counts {
-        lines,
-        documents,
-        entries,
-        namespaces,
-        bytes,
-    } = counts;
-    format!(in alloc;
-        "lines {lines} documents {documents} entries {entries} namespaces {namespaces} bytes {bytes} equal {equal}\n"
-    )
+    let text = dump_text(alloc, counts)?;
+    let namespaces = counts.namespaces;
+    let bytes = counts.bytes;
+    format!(in alloc; "{text} namespaces {namespaces} bytes {bytes} equal {equal}\n")
 }

@@ -7,7 +7,7 @@ use Rattle.std.proofs.Math.Seq.{set-append_seam}
 use Rattle.bson_value.specs.declared.value.Value.{Value, Value-F, fold-roll-Value}
 use Rattle.bson_value.specs.declared.value.Value.TheVariants.{Object, Array, Int, rolls-Object, rolls-Array, rolls-Int}
 use Rattle.bson_value.specs.Spelling.{Typed, spelling_step, spelling, element, elements_of, items_of, document_text, framed}
-use Rattle.entry_model.specs.Edits.{onto, picked}
+use Rattle.entry_model.specs.Edits.{onto, picked, mapped}
 use Rattle.entry_model.specs.Written.{Fields, section}
 use Rattle.entry_writer.specs.Elements.{document_element, opening, opening_array}
 
@@ -44,6 +44,16 @@ module _ {A : Type 0} (h : A → Option (List ℕ × Value)) where
       put ∙ (ap (λ (b : List ℕ). b ++ elements_of (onto (h x) [])) inv
       ∙ (append_assoc old (elements_of (picked h (take i xs))) (elements_of (onto (h x) []))
       ∙ ap (λ (b : List ℕ). old ++ b) (sym (elements-append (picked h (take i xs)) (onto (h x) [])) ∙ ap elements_of (sym (picked-append (take i xs) (x ∷ [])) ∙ ap (picked h) (sym more)))))
+
+pub picked-mapped : {A B X : Type 0} (g : B → Option X) (f : A → B) (xs : List A) → picked g (mapped f xs) ≡ picked (λ x. g (f x)) xs
+picked-mapped g f [] = refl
+picked-mapped g f (x ∷ xs) = ap (onto (g (f x))) (picked-mapped g f xs)
+
+-- the same of what the elements are
+pub picked_of_put : {A B : Type 0} (g : B → Option (List ℕ × Value)) (f : A → B) (xs : List A) (i : ℕ) (x : A) (old now new : List ℕ) → i < length xs → x ≡ get_or xs i x → now ≡ old ++ elements_of (picked g (mapped f (take i xs))) → new ≡ now ++ elements_of (onto (g (f x)) []) → new ≡ old ++ elements_of (picked g (mapped f (take (i + 1) xs)))
+picked_of_put g f xs i x old now new lt e inv put =
+    picked_put (λ y. g (f y)) xs i x old now new lt e (inv ∙ ap (λ (fs : Fields). old ++ elements_of fs) (picked-mapped g f (take i xs))) put
+    ∙ ap (λ (fs : Fields). old ++ elements_of fs) (sym (picked-mapped g f (take (i + 1) xs)))
 
 -- ---- a document in a field
 

@@ -1,17 +1,17 @@
 -- The fields of the first form, touch by touch.
 use Rattle.std.proofs.Common.{◌≡◌, ℕ, List, [], ◌∷◌, ◌++◌, Bool, true, false, refl, sym, ap, ◌∙◌, append_assoc}
-use Rattle.std.specs.Prelude.{pos, Option, Some, None}
+use Rattle.std.specs.Prelude.{pos, Some, None}
 use Rattle.bson_value.specs.declared.value.Value.{Value, Int, Bool as Truth}
 use Rattle.bson_value.specs.Spelling.{element, spelling, elements_of}
 use Rattle.doc_path.specs.declared.parts.Part.{Part}
 use Rattle.doc_path.specs.declared.touches.Touch.{Touch}
 use Rattle.doc_path.specs.declared.touches.Touch.TheVariants.{Set, Unset, Resize}
 use Rattle.doc_path.specs.Played.{way_and_last}
-use Rattle.entry_model.specs.Edits.{Edit, onto, picked, mapped}
+use Rattle.entry_model.specs.Edits.{Edit, picked, mapped}
 use Rattle.entry_model.specs.Written.{Fields, path_of, path_set, path_gone, section, v_name, set_name, unset_name, spelled_v1}
 use Rattle.entry_model.specs.Touches.{edit_of}
 use Rattle.entry_writer.specs.Levels.{path_field}
-use Rattle.entry_writer.proofs.Bytes.{elements-append}
+use Rattle.entry_writer.proofs.Bytes.{elements-append, picked-mapped}
 
 parted : (p : Part) (ps : List Part) → (way_and_last p ps).0 ++ ((way_and_last p ps).1 ∷ []) ≡ p ∷ ps
 parted p [] = refl
@@ -38,10 +38,6 @@ resize_no_path true [] m = refl
 resize_no_path true (p ∷ ps) m = refl
 resize_no_path false [] m = refl
 resize_no_path false (p ∷ ps) m = refl
-
-picked-mapped : {A B X : Type 0} (g : B → Option X) (f : A → B) (xs : List A) → picked g (mapped f xs) ≡ picked (λ x. g (f x)) xs
-picked-mapped g f [] = refl
-picked-mapped g f (x ∷ xs) = ap (onto (g (f x))) (picked-mapped g f xs)
 
 pub first_form : (ts : List Touch) (old one two three : List ℕ) → one ≡ old ++ element (v_name, spelling (Int (pos 1))) → two ≡ one ++ elements_of (section set_name (picked (path_field true) ts)) → three ≡ two ++ elements_of (section unset_name (picked (path_field false) ts)) → three ≡ old ++ elements_of (spelled_v1 (mapped edit_of ts))
 first_form ts old one two three a b d =

@@ -1,73 +1,47 @@
--- Groups are what is behind a front, and the parts of a level are listed from the left.
-use Rattle.std.proofs.Common.{◌≡◌, ℕ, zero, suc, ◌+◌, ◌<◌, ◌≤◌, List, [], ◌∷◌, ◌++◌, length, take, drop, get_or, Bool, true, false, refl, sym, ap, ◌∙◌, arith, inl, inr, append_assoc}
-use Rattle.std.specs.Prelude.{Option, Some, None, option_map, if◌then◌else◌, ◌||◌, insert}
-use Rattle.std.specs.List.{list_any}
+-- Edits by their parts: what a loop from the left gathers.
+use Rattle.std.proofs.Common.{◌≡◌, ℕ, zero, suc, ◌+◌, ◌<◌, List, [], ◌∷◌, ◌++◌, length, take, get_or, Bool, true, false, refl, sym, ap, ◌∙◌, arith, inl, inr}
+use Rattle.std.specs.Prelude.{Option, Some, None, option_map, if◌then◌else◌, ◌||◌, slice_set}
 use Rattle.std.proofs.lemmas.Bool.{cases_Bool}
 use Rattle.std.proofs.lemmas.List.{take_more, append-nil}
 use Rattle.doc_path.specs.declared.parts.Part.{Part}
-use Rattle.doc_path.specs.declared.touches.Touch.{Touch}
-use Rattle.entry_model.specs.Edits.{Step, Edit, onto, picked, mapped, same_part, behind, group, once, without, is_before, inserted, rising}
-use Rattle.entry_model.specs.Written.{in_array, is_array}
-use Rattle.entry_model.specs.Touches.{edit_of}
+use Rattle.entry_model.specs.Edits.{Edit, onto, picked, mapped, same_part, behind, group, once, without}
 use Rattle.entry_model.proofs.Lists.{one_part, own_part}
-use Rattle.entry_writer.specs.Fronts.{rest_behind, edit_behind, edits_behind, level, seen, below_in}
-use Rattle.entry_writer.specs.Groups.{among, added, is_part, is_below, array_in}
+use Rattle.entry_writer.specs.declared.edits.Edit.{Edit as Held}
+use Rattle.entry_writer.specs.declared.parts.PartEdits.{PartEdits}
+use Rattle.entry_writer.specs.Edits.{edit_in, edits_in, part_by}
+use Rattle.entry_writer.specs.Order.{IsOnce}
+use Rattle.entry_writer.specs.Groups.{Group, group_in, groups_in, among, is_part, members, parts_by, grouped, put_edit, put_by, joined, place_of}
 
--- ---- what is behind nothing, and behind one part more
+-- ---- lists
 
-all_behind_nothing : (es : List Edit) → edits_behind [] es ≡ es
-all_behind_nothing [] = refl
-all_behind_nothing (e ∷ es) = ap (λ (l : List Edit). e ∷ l) (all_behind_nothing es)
-
-pub level_whole : (ts : List Touch) → level [] ts ≡ mapped edit_of ts
-level_whole ts = all_behind_nothing (mapped edit_of ts)
-
-abbrev then_behind : Part → Option Edit → Option Edit
-then_behind r None = None
-then_behind r (Some e) = behind r e
-
-abbrev stripped : Step → Option (List Part) → Option Edit
-stripped s o = option_map (λ ps. (ps, s)) o
-
-one_more : (front : List Part) (r : Part) (ps : List Part) (s : Step) → stripped s (rest_behind (front ++ (r ∷ [])) ps) ≡ then_behind r (stripped s (rest_behind front ps))
-one_more [] r [] s = refl
-one_more [] r (p ∷ ps) s = by (same_part p r)
-  where
-    by : (b : Bool) → stripped s (if b then Some ps else None) ≡ (if b then Some (ps, s) else None)
-    by true = refl
-    by false = refl
-one_more (f ∷ front) r [] s = refl
-one_more (f ∷ front) r (p ∷ ps) s = by (same_part p f) (one_more front r ps s)
-  where
-    by : (b : Bool) → stripped s (rest_behind (front ++ (r ∷ [])) ps) ≡ then_behind r (stripped s (rest_behind front ps)) →
-        stripped s (if b then rest_behind (front ++ (r ∷ [])) ps else None) ≡ then_behind r (stripped s (if b then rest_behind front ps else None))
-    by true h = h
-    by false h = refl
-
-then_picked : (r : Part) (o : Option Edit) (es : List Edit) → onto (then_behind r o) (picked (behind r) es) ≡ picked (behind r) (onto o es)
-then_picked r None es = refl
-then_picked r (Some e) es = refl
-
-group_behind : (front : List Part) (r : Part) (es : List Edit) → edits_behind (front ++ (r ∷ [])) es ≡ group r (edits_behind front es)
-group_behind front r [] = refl
-group_behind front r (e ∷ es) =
-    (let a = one_more front r e.0 e.1 in let b = group_behind front r es in λ i. onto (a i) (b i)) ∙ then_picked r (edit_behind front e) (edits_behind front es)
-
-pub level_below : (front : List Part) (r : Part) (ts : List Touch) → level (front ++ (r ∷ [])) ts ≡ group r (level front ts)
-level_below front r ts = group_behind front r (mapped edit_of ts)
-
--- ---- what is picked of a level, touch by touch
-
-module _ {X : Type 0} (g : Edit → Option X) (h : Option Edit → Option X) (none : h None ≡ None) (some : (e : Edit) → h (Some e) ≡ g e) where
-  pub level_picked : (front : List Part) (ts : List Touch) → picked g (level front ts) ≡ picked (λ t. h (seen front t)) ts
-  level_picked front [] = refl
-  level_picked front (t ∷ ts) = by (seen front t) (level_picked front ts)
+module _ {A B : Type 0} where
+  pub picked-append : (h : A → Option B) (xs ys : List A) → picked h (xs ++ ys) ≡ picked h xs ++ picked h ys
+  picked-append h [] ys = refl
+  picked-append h (x ∷ xs) ys = by (h x) (picked-append h xs ys)
     where
-      by : (o : Option Edit) → picked g (level front ts) ≡ picked (λ u. h (seen front u)) ts → picked g (onto o (level front ts)) ≡ onto (h o) (picked (λ u. h (seen front u)) ts)
-      by None e = e ∙ ap (λ (x : Option X). onto x (picked (λ u. h (seen front u)) ts)) (sym none)
-      by (Some d) e = λ i. onto (sym (some d) i) (e i)
+      by : (o : Option B) → picked h (xs ++ ys) ≡ picked h xs ++ picked h ys → onto o (picked h (xs ++ ys)) ≡ onto o (picked h xs) ++ picked h ys
+      by None e = e
+      by (Some f) e = ap (λ (l : List B). f ∷ l) e
+
+  pub mapped-append : (f : A → B) (xs ys : List A) → mapped f (xs ++ ys) ≡ mapped f xs ++ mapped f ys
+  mapped-append f [] ys = refl
+  mapped-append f (x ∷ xs) ys = ap (λ (l : List B). f x ∷ l) (mapped-append f xs ys)
+
+  pub length-mapped : (f : A → B) (xs : List A) → length (mapped f xs) ≡ length xs
+  length-mapped f [] = refl
+  length-mapped f (x ∷ xs) = ap (λ (n : ℕ). suc n) (length-mapped f xs)
+
+  -- a loop's step
+  pub mapped_more : (f : A → B) (xs : List A) (i : ℕ) (x : A) → i < length xs → x ≡ get_or xs i x → mapped f (take (i + 1) xs) ≡ mapped f (take i xs) ++ (f x ∷ [])
+  mapped_more f xs i x lt e = ap (mapped f) (take_more xs i x lt ∙ ap (λ (y : A). take i xs ++ y ∷ []) (sym e)) ∙ mapped-append f (take i xs) (x ∷ [])
 
 -- ---- parts each once, from the left
+
+unlike : (p r : Part) → same_part p r ≡ false → same_part r p ≡ false
+unlike p r n = elim (cases_Bool (same_part r p)) [
+  | inl k ↦ let x : same_part p r ≡ true = ap (same_part p) (one_part r p k) ∙ own_part p in let y : true ≡ false = sym x ∙ n in cc
+  | inr k ↦ k
+]
 
 among_without : (p : Part) (qs : List Part) (r : Part) → same_part p r ≡ false → among r (without p qs) ≡ among r qs
 among_without p [] r n = refl
@@ -99,12 +73,6 @@ once_end : (ps : List Part) (r : Part) → once (ps ++ (r ∷ [])) ≡ (if among
 once_end [] r = refl
 once_end (p ∷ ps) r = by (same_part p r) refl (among r ps) (once_end ps r)
   where
-    unlike : same_part p r ≡ false → same_part r p ≡ false
-    unlike n = elim (cases_Bool (same_part r p)) [
-      | inl k ↦ let x : same_part p r ≡ true = ap (same_part p) (one_part r p k) ∙ own_part p in let y : true ≡ false = sym x ∙ n in cc
-      | inr k ↦ k
-    ]
-
     by : (a : Bool) → same_part p r ≡ a → (b : Bool) → once (ps ++ (r ∷ [])) ≡ (if b then once ps else once ps ++ (r ∷ [])) →
         p ∷ without p (once (ps ++ (r ∷ []))) ≡ (if (a || b) then p ∷ without p (once ps) else (p ∷ without p (once ps)) ++ (r ∷ []))
     by true e true h = ap (λ (l : List Part). p ∷ without p l) h
@@ -112,127 +80,200 @@ once_end (p ∷ ps) r = by (same_part p r) refl (among r ps) (once_end ps r)
         let o : same_part r p ≡ true = ap (same_part r) (one_part p r e) ∙ own_part r in
         ap (λ (l : List Part). p ∷ without p l) h ∙ ap (λ (l : List Part). p ∷ l) (without_end p (once ps) r ∙ rw o refl)
     by false e true h = ap (λ (l : List Part). p ∷ without p l) h
-    by false e false h = ap (λ (l : List Part). p ∷ without p l) h ∙ ap (λ (l : List Part). p ∷ l) (without_end p (once ps) r ∙ rw (unlike e) refl)
+    by false e false h = ap (λ (l : List Part). p ∷ without p l) h ∙ ap (λ (l : List Part). p ∷ l) (without_end p (once ps) r ∙ rw (unlike p r e) refl)
 
-module _ {A : Type 0} (h : A → Option Part) where
-  picked-append : (xs ys : List A) → picked h (xs ++ ys) ≡ picked h xs ++ picked h ys
-  picked-append [] ys = refl
-  picked-append (x ∷ xs) ys = by (h x) (picked-append xs ys)
+none_without : (p r : Part) (qs : List Part) → among r qs ≡ false → among r (without p qs) ≡ false
+none_without p r [] h = refl
+none_without p r (q ∷ qs) h = by (same_part q p) (same_part q r) refl h (none_without p r qs)
+  where
+    by : (a b : Bool) → same_part q r ≡ b → (b || among r qs) ≡ false → (among r qs ≡ false → among r (without p qs) ≡ false) → among r (if a then without p qs else q ∷ without p qs) ≡ false
+    by a true e h ih = cc
+    by true false e h ih = ih h
+    by false false e h ih = ap (λ (b : Bool). b || among r (without p qs)) e ∙ ih h
+
+own_without : (p : Part) (qs : List Part) → among p (without p qs) ≡ false
+own_without p [] = refl
+own_without p (q ∷ qs) = by (same_part q p) refl (own_without p qs)
+  where
+    by : (a : Bool) → same_part q p ≡ a → among p (without p qs) ≡ false → among p (if a then without p qs else q ∷ without p qs) ≡ false
+    by true e h = h
+    by false e h = ap (λ (b : Bool). b || among p (without p qs)) e ∙ h
+
+once_without : (p : Part) (qs : List Part) → IsOnce qs → IsOnce (without p qs)
+once_without p [] h = tt
+once_without p (q ∷ qs) h = by (same_part q p) (once_without p qs h.1)
+  where
+    by : (a : Bool) → IsOnce (without p qs) → IsOnce (if a then without p qs else q ∷ without p qs)
+    by true ih = ih
+    by false ih = (none_without p q qs h.0, ih)
+
+pub is_once : (ps : List Part) → IsOnce (once ps)
+is_once [] = tt
+is_once (p ∷ ps) = (own_without p (once ps), once_without p (once ps) (is_once ps))
+
+-- ---- the members of a part
+
+module _ (at : Bool) where
+  abbrev one : Part → Option Part → Edit → List Edit
+  one r o e = onto (if is_part r o then Some e else None) []
+
+  members_end : (r : Part) (o : Option Part) (es : List Edit) (e : Edit) → part_by at e ≡ o → members at r (es ++ e ∷ []) ≡ members at r es ++ one r o e
+  members_end r o es e h =
+      picked-append (λ (d : Edit). if is_part r (part_by at d) then Some d else None) es (e ∷ []) ∙ ap (λ (p : Option Part). members at r es ++ one r p e) h
+
+  own_member : (r : Part) (es : List Edit) (e : Edit) → part_by at e ≡ Some r → members at r (es ++ e ∷ []) ≡ members at r es ++ e ∷ []
+  own_member r es e h = members_end r (Some r) es e h ∙ ap (λ (b : Bool). members at r es ++ onto (if b then Some e else None) []) (own_part r)
+
+  other_member : (r q : Part) (es : List Edit) (e : Edit) → part_by at e ≡ Some q → same_part q r ≡ false → members at r (es ++ e ∷ []) ≡ members at r es
+  other_member r q es e h n = members_end r (Some q) es e h ∙ (ap (λ (b : Bool). members at r es ++ onto (if b then Some e else None) []) n ∙ append-nil (members at r es))
+
+  no_member : (r : Part) (es : List Edit) → among r (picked (part_by at) es) ≡ false → members at r es ≡ []
+  no_member r [] h = refl
+  no_member r (e ∷ es) h = by (part_by at e) h (no_member r es)
     where
-      by : (o : Option Part) → picked h (xs ++ ys) ≡ picked h xs ++ picked h ys → onto o (picked h (xs ++ ys)) ≡ onto o (picked h xs) ++ picked h ys
-      by None e = e
-      by (Some f) e = ap (λ (l : List Part). f ∷ l) e
+      part : (q : Part) (b : Bool) → (b || among r (picked (part_by at) es)) ≡ false → (among r (picked (part_by at) es) ≡ false → members at r es ≡ []) → onto (if b then Some e else None) (members at r es) ≡ []
+      part q true h ih = cc
+      part q false h ih = ih h
 
-  pub parts_more : (xs : List A) (i : ℕ) (x : A) (now new : List Part) → i < length xs → x ≡ get_or xs i x → now ≡ once (picked h (take i xs)) → new ≡ added (h x) now → new ≡ once (picked h (take (i + 1) xs))
-  parts_more xs i x now new lt e inv is =
-      let more : take (i + 1) xs ≡ take i xs ++ x ∷ [] = take_more xs i x lt ∙ ap (λ (y : A). take i xs ++ y ∷ []) (sym e) in
-      is ∙ (ap (added (h x)) inv ∙ (by (h x) ∙ ap once (sym (picked-append (take i xs) (x ∷ [])) ∙ ap (picked h) (sym more))))
+      by : (o : Option Part) → among r (onto o (picked (part_by at) es)) ≡ false → (among r (picked (part_by at) es) ≡ false → members at r es ≡ []) → onto (if is_part r o then Some e else None) (members at r es) ≡ []
+      by None h ih = ih h
+      by (Some q) h ih = part q (same_part q r) h ih
+
+  -- ---- one edit more
+
+  abbrev table : List Edit → List Part → List Group
+  table es ps = mapped (λ r. (r, members at r es)) ps
+
+  no_part : (es : List Edit) (e : Edit) (ps : List Part) → part_by at e ≡ None → table (es ++ e ∷ []) ps ≡ table es ps
+  no_part es e [] h = refl
+  no_part es e (p ∷ ps) h =
+      let first : members at p (es ++ e ∷ []) ≡ members at p es = members_end p None es e h ∙ append-nil (members at p es) in
+      λ i. (p, first i) ∷ no_part es e ps h i
+
+  apart : (es : List Edit) (e : Edit) (r : Part) (ps : List Part) → part_by at e ≡ Some r → among r ps ≡ false → table (es ++ e ∷ []) ps ≡ table es ps
+  apart es e r [] h n = refl
+  apart es e r (p ∷ ps) h n = by (same_part p r) refl n (apart es e r ps h)
     where
-      by : (o : Option Part) → added o (once (picked h (take i xs))) ≡ once (picked h (take i xs) ++ onto o [])
-      by None = ap once (sym (append-nil (picked h (take i xs))))
-      by (Some p) = ap (λ (b : Bool). if b then once (picked h (take i xs)) else once (picked h (take i xs)) ++ p ∷ []) (among_once (picked h (take i xs)) p) ∙ sym (once_end (picked h (take i xs)) p)
+      by : (b : Bool) → same_part p r ≡ b → (b || among r ps) ≡ false → (among r ps ≡ false → table (es ++ e ∷ []) ps ≡ table es ps) → table (es ++ e ∷ []) (p ∷ ps) ≡ table es (p ∷ ps)
+      by true k n ih = cc
+      by false k n ih = let first = other_member p r es e h (unlike p r k) in λ i. (p, first i) ∷ ih n i
 
--- ---- by rising index
+  there : (es : List Edit) (e : Edit) (r : Part) (ps : List Part) → part_by at e ≡ Some r → IsOnce ps → among r ps ≡ true → put_edit r e (table es ps) ≡ table (es ++ e ∷ []) ps
+  there es e r [] h o n = cc
+  there es e r (p ∷ ps) h o n = by (same_part p r) refl n (there es e r ps h o.1)
+    where
+      by : (b : Bool) → same_part p r ≡ b → (b || among r ps) ≡ true → (among r ps ≡ true → put_edit r e (table es ps) ≡ table (es ++ e ∷ []) ps) →
+          (if b then (p, members at p es ++ e ∷ []) ∷ table es ps else (p, members at p es) ∷ put_edit r e (table es ps)) ≡ table (es ++ e ∷ []) (p ∷ ps)
+      by true k n ih =
+          let is : r ≡ p = sym (one_part p r k) in
+          let first : members at p (es ++ e ∷ []) ≡ members at p es ++ e ∷ [] = own_member p es e (h ∙ ap Some is) in
+          let none : among r ps ≡ false = ap (λ (q : Part). among q ps) is ∙ o.0 in
+          let rest : table (es ++ e ∷ []) ps ≡ table es ps = apart es e r ps h none in
+          sym (λ i. (p, first i) ∷ rest i)
+      by false k n ih =
+          let first : members at p (es ++ e ∷ []) ≡ members at p es = other_member p r es e h (unlike p r k) in
+          let back : members at p es ≡ members at p (es ++ e ∷ []) = sym first in
+          λ i. (p, back i) ∷ ih n i
 
-abbrev pub all_inserted : List Part → List Part → List Part
-all_inserted l [] = l
-all_inserted l (p ∷ ps) = inserted p (all_inserted l ps)
+  absent : (es : List Edit) (e : Edit) (r : Part) (ps : List Part) → among r ps ≡ false → put_edit r e (table es ps) ≡ table es ps ++ (r, e ∷ []) ∷ []
+  absent es e r [] n = refl
+  absent es e r (p ∷ ps) n = by (same_part p r) n (absent es e r ps)
+    where
+      by : (b : Bool) → (b || among r ps) ≡ false → (among r ps ≡ false → put_edit r e (table es ps) ≡ table es ps ++ (r, e ∷ []) ∷ []) →
+          (if b then (p, members at p es ++ e ∷ []) ∷ table es ps else (p, members at p es) ∷ put_edit r e (table es ps)) ≡ table es (p ∷ ps) ++ (r, e ∷ []) ∷ []
+      by true n ih = cc
+      by false n ih = ap (λ (l : List Group). (p, members at p es) ∷ l) (ih n)
 
-pub all_rising : (ps : List Part) → all_inserted [] ps ≡ rising ps
-all_rising [] = refl
-all_rising (p ∷ ps) = ap (inserted p) (all_rising ps)
+  parts_end : (es : List Edit) (e : Edit) (o : Option Part) → part_by at e ≡ o → parts_by at (es ++ e ∷ []) ≡ once (picked (part_by at) es ++ onto o [])
+  parts_end es e o h = ap once (picked-append (part_by at) es (e ∷ []) ∙ ap (λ (p : Option Part). picked (part_by at) es ++ onto p []) h)
 
-pub last_inserted : (ps : List Part) (p : Part) (l : List Part) → all_inserted l (ps ++ p ∷ []) ≡ all_inserted (inserted p l) ps
-last_inserted [] p l = refl
-last_inserted (q ∷ ps) p l = ap (inserted q) (last_inserted ps p l)
+  part_more : (es : List Edit) (e : Edit) (r : Part) (b : Bool) → part_by at e ≡ Some r → among r (picked (part_by at) es) ≡ b → put_edit r e (grouped at es) ≡ grouped at (es ++ e ∷ [])
+  part_more es e r true h n =
+      let ps : List Part = picked (part_by at) es in
+      let same : parts_by at (es ++ e ∷ []) ≡ once ps = parts_end es e (Some r) h ∙ (once_end ps r ∙ ap (λ (b : Bool). if b then once ps else once ps ++ r ∷ []) n) in
+      there es e r (once ps) h (is_once ps) (among_once ps r ∙ n) ∙ ap (table (es ++ e ∷ [])) (sym same)
+  part_more es e r false h n =
+      let ps : List Part = picked (part_by at) es in
+      let more : parts_by at (es ++ e ∷ []) ≡ once ps ++ r ∷ [] = parts_end es e (Some r) h ∙ (once_end ps r ∙ ap (λ (b : Bool). if b then once ps else once ps ++ r ∷ []) n) in
+      let none : among r (once ps) ≡ false = among_once ps r ∙ n in
+      let first : members at r (es ++ e ∷ []) ≡ e ∷ [] = own_member r es e h ∙ ap (λ (l : List Edit). l ++ e ∷ []) (no_member r es n) in
+      let rest : table (es ++ e ∷ []) (once ps) ≡ table es (once ps) = apart es e r (once ps) h none in
+      absent es e r (once ps) none ∙ sym (ap (table (es ++ e ∷ [])) more ∙ (mapped-append (λ (q : Part). (q, members at q (es ++ e ∷ []))) (once ps) (r ∷ []) ∙ (λ i. rest i ++ (r, first i) ∷ [])))
 
-dropped_next : (xs : List Part) (n : ℕ) (x : Part) → n < length xs → x ≡ get_or xs n x → drop n xs ≡ x ∷ drop (suc n) xs
-dropped_next [] n x l f = absurd (omega arith)
-dropped_next (y ∷ xs) zero x l f = ap (λ (z : Part). z ∷ xs) (sym f)
-dropped_next (y ∷ xs) (suc n) x l f = dropped_next xs n x (omega arith) f
+  edit_more : (es : List Edit) (e : Edit) (o : Option Part) → part_by at e ≡ o → put_by o e (grouped at es) ≡ grouped at (es ++ e ∷ [])
+  edit_more es e None h =
+      let same : parts_by at (es ++ e ∷ []) ≡ parts_by at es = parts_end es e None h ∙ ap once (append-nil (picked (part_by at) es)) in
+      sym (ap (table (es ++ e ∷ [])) same ∙ no_part es e (parts_by at es) h)
+  edit_more es e (Some r) h = part_more es e r (among r (picked (part_by at) es)) h refl
 
-dropped : (xs : List Part) (n : ℕ) (x : Part) → n < length xs → x ≡ get_or xs n x → drop n xs ≡ x ∷ drop (n + 1) xs
-dropped xs n x l f = let m : suc n ≡ n + 1 = omega arith in dropped_next xs n x l f ∙ ap (λ (k : ℕ). x ∷ drop k xs) m
+  pub grouped_more : (xs : List Held) (i : ℕ) (x : Held) (now new : List Group) → i < length xs → x ≡ get_or xs i x → now ≡ grouped at (edits_in (take i xs)) → new ≡ put_by (part_by at (edit_in x)) (edit_in x) now → new ≡ grouped at (edits_in (take (i + 1) xs))
+  grouped_more xs i x now new lt e inv is =
+      is ∙ (ap (put_by (part_by at (edit_in x)) (edit_in x)) inv ∙ (edit_more (edits_in (take i xs)) (edit_in x) (part_by at (edit_in x)) refl ∙ ap (grouped at) (sym (mapped_more edit_in xs i x lt e))))
 
--- those before a place are before the part
-pub place_more : (ps : List Part) (i : ℕ) (q p : Part) → i < length ps → q ≡ get_or ps i q → is_before q p ≡ true → inserted p ps ≡ take i ps ++ inserted p (drop i ps) → inserted p ps ≡ take (i + 1) ps ++ inserted p (drop (i + 1) ps)
-place_more ps i q p lt e b h =
-    h ∙ (ap (λ (l : List Part). take i ps ++ inserted p l) (dropped ps i q lt e)
-    ∙ (ap (λ (c : Bool). take i ps ++ (if c then q ∷ inserted p (drop (i + 1) ps) else p ∷ (q ∷ drop (i + 1) ps))) b
-    ∙ (sym (append_assoc (take i ps) (q ∷ []) (inserted p (drop (i + 1) ps)))
-    ∙ ap (λ (l : List Part). l ++ inserted p (drop (i + 1) ps)) (sym (take_more ps i q lt ∙ ap (λ (y : Part). take i ps ++ y ∷ []) (sym e))))))
+-- ---- places
 
-pub place_here : (ps : List Part) (i : ℕ) (q p : Part) → i < length ps → q ≡ get_or ps i q → is_before q p ≡ false → inserted p ps ≡ take i ps ++ inserted p (drop i ps) → insert ps i p ≡ inserted p ps
-place_here ps i q p lt e b h =
-    sym (h ∙ (ap (λ (l : List Part). take i ps ++ inserted p l) (dropped ps i q lt e)
-    ∙ (ap (λ (c : Bool). take i ps ++ (if c then q ∷ inserted p (drop (i + 1) ps) else p ∷ (q ∷ drop (i + 1) ps))) b
-    ∙ ap (λ (l : List Part). take i ps ++ p ∷ l) (sym (dropped ps i q lt e)))))
-
-pub place_end : (ps : List Part) (i : ℕ) (p : Part) → length ps ≤ i → inserted p ps ≡ take i ps ++ inserted p (drop i ps) → insert ps i p ≡ inserted p ps
-place_end ps i p le h = sym (h ∙ ap (λ (l : List Part). take i ps ++ l) (ap (inserted p) (over ps i le) ∙ ap (λ (l : List Part). p ∷ l) (sym (over ps i le))))
+pub within : (r : Part) (gs : List Group) (k : ℕ) → place_of r gs ≡ Some k → k < length gs
+within r [] k h = cc
+within r (g ∷ gs) k h = by (same_part g.0 r) (place_of r gs) h (λ n e. within r gs n e)
   where
-    over : (xs : List Part) (n : ℕ) → length xs ≤ n → drop n xs ≡ []
-    over [] zero l = refl
-    over [] (suc n) l = refl
-    over (x ∷ xs) zero l = absurd (omega arith)
-    over (x ∷ xs) (suc n) l = over xs n (omega arith)
+    by : (b : Bool) (o : Option ℕ) → (if b then Some 0 else option_map (λ n. suc n) o) ≡ Some k → ((n : ℕ) → o ≡ Some n → n < length gs) → k < length (g ∷ gs)
+    by true o h ih = let z : 0 ≡ k = cc in omega (arith, z)
+    by false None h ih = cc
+    by false (Some n) h ih = let z : suc n ≡ k = cc in omega (arith, z, ih n refl)
 
--- ---- whether edits stand below a part
-
-module _ (r : Part) (front : List Part) (ts : List Touch) where
-  some_one : (ps : List Part) (s : Step) (b c : Bool) → (b || c) ≡ true → (c ≡ true → group r (level front ts) ≡ [] → ⊥) → onto (if b then Some (ps, s) else None) (group r (level front ts)) ≡ [] → ⊥
-  some_one ps s true c h ih k = cc
-  some_one ps s false c h ih k = ih h k
-
-  some_first : (o : Option Edit) (c : Bool) → (is_part r (below_in o) || c) ≡ true → (c ≡ true → group r (level front ts) ≡ [] → ⊥) → group r (onto o (level front ts)) ≡ [] → ⊥
-  some_first None c h ih k = ih h k
-  some_first (Some ([], s)) c h ih k = ih h k
-  some_first (Some ((p ∷ ps), s)) c h ih k = some_one ps s (same_part p r) c h ih k
-
-  none_one : (ps : List Part) (s : Step) (b c : Bool) → (b || c) ≡ false → (c ≡ false → group r (level front ts) ≡ []) → onto (if b then Some (ps, s) else None) (group r (level front ts)) ≡ []
-  none_one ps s true c h ih = cc
-  none_one ps s false c h ih = ih h
-
-  none_first : (o : Option Edit) (c : Bool) → (is_part r (below_in o) || c) ≡ false → (c ≡ false → group r (level front ts) ≡ []) → group r (onto o (level front ts)) ≡ []
-  none_first None c h ih = ih h
-  none_first (Some ([], s)) c h ih = ih h
-  none_first (Some ((p ∷ ps), s)) c h ih = none_one ps s (same_part p r) c h ih
-
-pub some_below : (r : Part) (front : List Part) (ts : List Touch) → list_any (is_below r front) ts ≡ true → group r (level front ts) ≡ [] → ⊥
-some_below r front [] e k = cc
-some_below r front (t ∷ ts) e k = some_first r front ts (seen front t) (list_any (is_below r front) ts) e (some_below r front ts) k
-
-pub none_below : (r : Part) (front : List Part) (ts : List Touch) → list_any (is_below r front) ts ≡ false → group r (level front ts) ≡ []
-none_below r front [] e = refl
-none_below r front (t ∷ ts) e = none_first r front ts (seen front t) (list_any (is_below r front) ts) e (none_below r front ts)
-
--- ---- whether they are those of an array
-
-level_end : (front : List Part) (ts : List Touch) (t : Touch) → level front ts ≡ [] → seen front t ≡ None → level front (ts ++ t ∷ []) ≡ []
-level_end front [] t h n = ap (λ (o : Option Edit). onto o []) n
-level_end front (x ∷ ts) t h n = by (seen front x) h (λ k. level_end front ts t k n)
+pub joined_is : (r : Part) (e : Edit) (gs : List Group) (k : ℕ) → place_of r gs ≡ Some k → joined k e gs ≡ put_edit r e gs
+joined_is r e [] k h = cc
+joined_is r e (g ∷ gs) k h = by (same_part g.0 r) (place_of r gs) h (λ n q. joined_is r e gs n q)
   where
-    by : (o : Option Edit) → onto o (level front ts) ≡ [] → (level front ts ≡ [] → level front (ts ++ t ∷ []) ≡ []) → onto o (level front (ts ++ t ∷ [])) ≡ []
-    by None k ih = ih k
-    by (Some d) k ih = cc
+    by : (b : Bool) (o : Option ℕ) → (if b then Some 0 else option_map (λ n. suc n) o) ≡ Some k → ((n : ℕ) → o ≡ Some n → joined n e gs ≡ put_edit r e gs) → joined k e (g ∷ gs) ≡ (if b then (g.0, g.1 ++ e ∷ []) ∷ gs else g ∷ put_edit r e gs)
+    by true o h ih = let z : k ≡ 0 = cc in ap (λ (n : ℕ). joined n e (g ∷ gs)) z
+    by false None h ih = cc
+    by false (Some n) h ih = let z : k ≡ suc n = cc in ap (λ (m : ℕ). joined m e (g ∷ gs)) z ∙ ap (λ (l : List Group). g ∷ l) (ih n refl)
 
-unseen : (o : Option Edit) → array_in o ≡ None → o ≡ None
-unseen None e = refl
-unseen (Some d) e = cc
+pub place_joined : (q : Part) (e : Edit) (gs : List Group) (k : ℕ) → place_of q (joined k e gs) ≡ place_of q gs
+place_joined q e [] k = refl
+place_joined q e (g ∷ gs) zero = refl
+place_joined q e (g ∷ gs) (suc k) = ap (λ (o : Option ℕ). if same_part g.0 q then Some 0 else option_map (λ n. suc n) o) (place_joined q e gs k)
 
-pub still_none : (front : List Part) (ts : List Touch) (i : ℕ) (t : Touch) → i < length ts → t ≡ get_or ts i t → array_in (seen front t) ≡ None → level front (take i ts) ≡ [] → level front (take (i + 1) ts) ≡ []
-still_none front ts i t lt e n h =
-    ap (level front) (take_more ts i t lt ∙ ap (λ (y : Touch). take i ts ++ y ∷ []) (sym e)) ∙ level_end front (take i ts) t h (unseen (seen front t) n)
-
-seen_array : (o : Option Edit) (es : List Edit) (b : Bool) → array_in o ≡ Some b → is_array (onto o es) ≡ b
-seen_array None es b e = cc
-seen_array (Some d) es b e = let i : in_array d.0 d.1 ≡ b = cc in i
-
-pub first_is : (front : List Part) (ts : List Touch) (i : ℕ) (t : Touch) (b : Bool) → i < length ts → t ≡ get_or ts i t → array_in (seen front t) ≡ Some b → level front (take i ts) ≡ [] → is_array (level front ts) ≡ b
-first_is front [] i t b lt e s h = absurd (omega arith)
-first_is front (x ∷ ts) zero t b lt e s h = seen_array (seen front x) (level front ts) b (ap (λ (u : Touch). array_in (seen front u)) (sym e) ∙ s)
-first_is front (x ∷ ts) (suc i) t b lt e s h = by (seen front x) h (λ k. first_is front ts i t b (omega arith) e s k)
+pub begun_is : (r : Part) (e : Edit) (gs : List Group) → place_of r gs ≡ None → gs ++ (r, e ∷ []) ∷ [] ≡ put_edit r e gs
+begun_is r e [] h = refl
+begun_is r e (g ∷ gs) h = by (same_part g.0 r) (place_of r gs) h (λ n. begun_is r e gs n)
   where
-    by : (o : Option Edit) → onto o (level front (take i ts)) ≡ [] → (level front (take i ts) ≡ [] → is_array (level front ts) ≡ b) → is_array (onto o (level front ts)) ≡ b
-    by None k ih = ih k
-    by (Some d) k ih = cc
+    by : (b : Bool) (o : Option ℕ) → (if b then Some 0 else option_map (λ n. suc n) o) ≡ None → (o ≡ None → gs ++ (r, e ∷ []) ∷ [] ≡ put_edit r e gs) → (g ∷ gs) ++ (r, e ∷ []) ∷ [] ≡ (if b then (g.0, g.1 ++ e ∷ []) ∷ gs else g ∷ put_edit r e gs)
+    by true o h ih = cc
+    by false None h ih = ap (λ (l : List Group). g ∷ l) (ih refl)
+    by false (Some n) h ih = cc
+
+pub place_begun : (q r : Part) (es : List Edit) (gs : List Group) → place_of r gs ≡ None → place_of q (gs ++ (r, es) ∷ []) ≡ (if same_part r q then Some (length gs) else place_of q gs)
+place_begun q r es [] h = refl
+place_begun q r es (g ∷ gs) h = by (same_part g.0 r) (same_part g.0 q) refl refl (place_of r gs) (same_part r q) refl h (λ n. place_begun q r es gs n)
+  where
+    by : (a b : Bool) → same_part g.0 r ≡ a → same_part g.0 q ≡ b → (o : Option ℕ) (d : Bool) → same_part r q ≡ d → (if a then Some 0 else option_map (λ n. suc n) o) ≡ None →
+        (o ≡ None → place_of q (gs ++ (r, es) ∷ []) ≡ (if d then Some (length gs) else place_of q gs)) →
+        (if b then Some 0 else option_map (λ n. suc n) (place_of q (gs ++ (r, es) ∷ []))) ≡ (if d then Some (suc (length gs)) else (if b then Some 0 else option_map (λ n. suc n) (place_of q gs)))
+    by true b x y o d z h ih = cc
+    by false b x y (Some n) d z h ih = cc
+    by false true x y None true z h ih =
+        let p : g.0 ≡ q = one_part g.0 q y in
+        let s : r ≡ q = one_part r q z in
+        let t : same_part g.0 r ≡ true = ap (same_part g.0) (s ∙ sym p) ∙ own_part g.0 in
+        let u : true ≡ false = sym t ∙ x in cc
+    by false true x y None false z h ih = refl
+    by false false x y None true z h ih = ap (option_map (λ n. suc n)) (ih refl)
+    by false false x y None false z h ih = ap (option_map (λ n. suc n)) (ih refl)
+
+-- ---- in the code's lists
+
+pub joined_set : (gs : List PartEdits) (at : ℕ) (g h : PartEdits) (e : Held) → at < length gs → g ≡ get_or gs at g → h.part ≡ g.part → h.edits.items ≡ g.edits.items ++ e ∷ [] → groups_in (slice_set gs at h) ≡ joined at (edit_in e) (groups_in gs)
+joined_set [] at g h e lt is p es = absurd (omega (arith, lt))
+joined_set (x ∷ gs) zero g h e lt is p es =
+    let items : edits_in h.edits.items ≡ edits_in x.edits.items ++ edit_in e ∷ [] =
+    ap edits_in (es ∙ ap (λ (y : PartEdits). y.edits.items ++ e ∷ []) is) ∙ mapped-append edit_in x.edits.items (e ∷ []) in
+    let part : h.part ≡ x.part = p ∙ ap (λ (y : PartEdits). y.part) is in
+    λ i. ((part i).now, items i) ∷ groups_in gs
+joined_set (x ∷ gs) (suc at) g h e lt is p es = ap (λ (l : List Group). group_in x ∷ l) (joined_set gs at g h e (omega (arith, lt)) is p es)
+
+pub below_more : (r : Part) (xs : List Held) (i : ℕ) (x : Held) (now new : List Edit) → i < length xs → x ≡ get_or xs i x → now ≡ group r (edits_in (take i xs)) → new ≡ now ++ onto (behind r (edit_in x)) [] → new ≡ group r (edits_in (take (i + 1) xs))
+below_more r xs i x now new lt e inv is =
+    is ∙ (ap (λ (l : List Edit). l ++ onto (behind r (edit_in x)) []) inv
+    ∙ (sym (picked-append (behind r) (edits_in (take i xs)) (edit_in x ∷ [])) ∙ ap (group r) (sym (mapped_more edit_in xs i x lt e))))

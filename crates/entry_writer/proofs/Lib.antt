@@ -1,6 +1,8 @@
 pub mod Bytes
-pub mod Seen
+pub mod Steps
 pub mod Groups
+pub mod Order
+pub mod PathTexts
 pub mod FirstForm
 pub mod Diffs
 pub mod Items

@@ -6,12 +6,11 @@ use Rattle.doc_path.specs.declared.parts.Part.TheVariants.{Name as name, Index a
 use Rattle.doc_path.specs.declared.touches.Touch.{Touch}
 use Rattle.doc_path.specs.Touch.{key_of}
 use Rattle.doc_path.specs.Paths.{dot}
-use Rattle.entry_model.specs.Edits.{Step, Sets, Unsets, Resizes, picked, same_part}
-use Rattle.entry_model.specs.Written.{Fields, d_name, u_name, i_name, l_name, u_of, path_set, path_gone, set_name, unset_name}
+use Rattle.entry_model.specs.Edits.{Step, Sets, Unsets, Resizes, Edit, picked}
+use Rattle.entry_model.specs.Written.{Fields, d_name, u_name, i_name, l_name, path_set, path_gone, set_name, unset_name}
 use Rattle.entry_model.specs.Touches.{edit_of}
 use Rattle.entry_writer.specs.declared.level.Kind.{Kind}
 use Rattle.entry_writer.specs.declared.level.Kind.TheVariants.{Removed, Changed, Fresh, Length}
-use Rattle.entry_writer.specs.Fronts.{seen, here}
 
 abbrev pub set_field : Part → Value → Option (List ℕ × Value)
 set_field (name k) a = Some (k, a)
@@ -25,30 +24,22 @@ by_step Fresh (Sets p a fresh) = if fresh then set_field p a else None
 by_step Length (Resizes n) = Some (l_name, Int (pos n))
 by_step _ _ = None
 
-abbrev pub by_here : Kind → Option Step → Option (List ℕ × Value)
-by_here kind None = None
-by_here kind (Some s) = by_step kind s
+-- the field that an edit gives at its level
+abbrev pub field_in : Kind → List Part → Step → Option (List ℕ × Value)
+field_in kind [] s = by_step kind s
+field_in kind (p ∷ ps) s = None
 
--- the field that a touch gives, where it gives one
-abbrev pub field_of : Kind → List Part → Touch → Option (List ℕ × Value)
-field_of kind front t = by_here kind (here (seen front t))
+abbrev pub field_of : Kind → Edit → Option (List ℕ × Value)
+field_of kind e = field_in kind e.0 e.1
 
-abbrev pub fields_of : Kind → List Part → List Touch → Fields
-fields_of kind front ts = picked (field_of kind front) ts
+abbrev pub fields_of : Kind → List Edit → Fields
+fields_of kind es = picked (field_of kind) es
 
 abbrev pub section_name : Kind → List ℕ
 section_name Removed = d_name
 section_name Changed = u_name
 section_name Fresh = i_name
 section_name Length = l_name
-
--- an element that is set, where its part is this one
-abbrev pub by_part : Part → Option Step → Option (List ℕ × Value)
-by_part r (Some (Sets p a fresh)) = if same_part p r then Some (u_of p, a) else None
-by_part r _ = None
-
-abbrev pub element_of : Part → List Part → Touch → Option (List ℕ × Value)
-element_of r front t = by_part r (here (seen front t))
 
 -- ---- the first form
 

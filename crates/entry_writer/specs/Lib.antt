@@ -1,5 +1,6 @@
 pub mod Elements
-pub mod Fronts
-pub mod Levels
+pub mod Edits
 pub mod Groups
+pub mod Order
+pub mod Levels
 pub mod Bodies

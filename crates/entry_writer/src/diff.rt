@@ -1,71 +1,72 @@
 //! The second form of a delta: a diff.
-ghost use Rattle.std.specs.Prelude.{◌≡◌, ◌∷◌, ◌++◌, [], OnOk, IfOk};
+ghost use Rattle.std.specs.Prelude.{◌≡◌, ◌∷◌, ◌++◌, [], OnOk};
 ghost use Rattle.bson_value.specs.declared.value.Value.{Object};
 ghost use Rattle.bson_value.specs.Spelling.{elements_of};
 ghost use Rattle.entry_model.specs.Edits.{mapped, group};
-ghost use Rattle.entry_model.specs.Written.{diff, document_diff, array_diff, at_part, s_of, spelled_v2};
+ghost use Rattle.entry_model.specs.Written.{diff, document_diff, array_diff, s_of, spelled_v2};
 ghost use Rattle.entry_model.specs.Touches.{edit_of};
 ghost use Rattle.entry_model.specs.Spelling.{level_limit};
-ghost use Rattle.entry_writer.specs.Fronts.{level};
-ghost use Rattle.entry_writer.specs.Groups.{diff_below};
+ghost use Rattle.entry_writer.specs.Edits.{edits_in};
+ghost use Rattle.entry_writer.specs.Groups.{group_in, field_below, fields_at};
 
+use crate::edits::{Edit, edits_of, is_array};
 use crate::elements::{close, open, put_element};
 use crate::level::{Kind, put_elements_at, put_level, put_section};
 use crate::names::letter_name;
-use crate::parts::{any_below, is_array, parts_behind, rising};
-use bson_value::{List, Value};
+use crate::parts::{PartEdits, below, by_part};
+use crate::rising::rising;
+use bson_value::Value;
 use doc_path::{Part, Touch};
 use std::alloc::{AllocError, Global};
 
-/// A front with one part more.
-fn front_with(alloc: Global, front: &[Part], part: &Part) -> Result<List<Part>, AllocError>
-    ensures { IfOk result (λ parts. parts ≡ front.now ++ part.now ∷ []) }
-{
-    let mut parts = List::new(alloc);
-    for other in front {
-        parts.push(other.copy(alloc)?)?;
-    }
-    parts.push(part.copy(alloc)?)?;
-    Ok(parts)
-}
-
-/// Appends the diff below a part, in a field of its own.
+/// Appends the diff of what is below a part, in a field of its own.
 #[cycle(diff)]
 fn put_below(
     alloc: Global,
     out: &mut Vec<u8>,
     levels: usize,
-    front: &[Part],
     part: &Part,
-    touches: &[Touch],
+    edits: &[Edit<'_>],
 ) -> Result<(), AllocError>
-    ensures { OnOk result (out.new.items ≡ out.old.items ++ elements_of ((s_of part.now, Object (diff_below levels front.now touches.now part.now)) ∷ [])) }
+    ensures { OnOk result (out.new.items ≡ out.old.items ++ elements_of ((s_of part.now, Object (diff levels (edits_in edits.now))) ∷ [])) }
 {
     let name = letter_name(alloc, "s", part)?;
     open(out, name.as_str())?;
     let start = out.len();
-    let inner = front_with(alloc, front, part)?;
-    put_diff(alloc, out, levels, inner.as_slice(), touches)?;
+    put_diff(alloc, out, levels, edits)?;
     close(out, start)
 }
 
-/// Appends the diff of a document behind a front.
+/// Appends what a diff of a document has of one part.
+#[cycle(diff)]
+fn put_field_below(
+    alloc: Global,
+    out: &mut Vec<u8>,
+    levels: usize,
+    group: &PartEdits<'_>,
+) -> Result<(), AllocError>
+    ensures { OnOk result (out.new.items ≡ out.old.items ++ elements_of (field_below levels (group_in group.now) ∷ [])) }
+{
+    let inner = below(alloc, group.part, group.edits.as_slice())?;
+    put_below(alloc, out, levels, group.part, inner.as_slice())
+}
+
+/// Appends the diff of a document.
 #[cycle(diff)]
 fn put_document_diff(
     alloc: Global,
     out: &mut Vec<u8>,
     levels: usize,
-    front: &[Part],
-    touches: &[Touch],
+    edits: &[Edit<'_>],
 ) -> Result<(), AllocError>
-    ensures { OnOk result (out.new.items ≡ out.old.items ++ elements_of (document_diff (diff_below levels front.now touches.now) (level front.now touches.now))) }
+    ensures { OnOk result (out.new.items ≡ out.old.items ++ elements_of (document_diff (λ r. diff levels (group r (edits_in edits.now))) (edits_in edits.now))) }
 {
-    put_section(out, Kind::Removed, front, touches)?;
-    put_section(out, Kind::Changed, front, touches)?;
-    put_section(out, Kind::Fresh, front, touches)?;
-    let parts = parts_behind(alloc, false, front, touches)?;
-    for part in parts.as_slice() {
-        put_below(alloc, out, levels, front, part, touches)?;
+    put_section(out, Kind::Removed, edits)?;
+    put_section(out, Kind::Changed, edits)?;
+    put_section(out, Kind::Fresh, edits)?;
+    let groups = by_part(alloc, false, edits)?;
+    for group in groups.as_slice() {
+        put_field_below(alloc, out, levels, group)?;
     }
     Ok(())
 }
@@ -76,59 +77,54 @@ fn put_at_part(
     alloc: Global,
     out: &mut Vec<u8>,
     levels: usize,
-    front: &[Part],
-    part: &Part,
-    touches: &[Touch],
+    group: &PartEdits<'_>,
 ) -> Result<(), AllocError>
-    ensures { OnOk result (out.new.items ≡ out.old.items ++ elements_of (at_part (diff_below levels front.now touches.now) (level front.now touches.now) part.now)) }
+    ensures { OnOk result (out.new.items ≡ out.old.items ++ elements_of (fields_at levels (group_in group.now))) }
 {
-    put_elements_at(alloc, out, part, front, touches)?;
-    if any_below(part, front, touches) {
-        put_below(alloc, out, levels, front, part, touches)
-    } else {
-        Ok(())
+    put_elements_at(alloc, out, group.part, group.edits.as_slice())?;
+    let inner = below(alloc, group.part, group.edits.as_slice())?;
+    if inner.is_empty() {
+        return Ok(());
     }
+    put_below(alloc, out, levels, group.part, inner.as_slice())
 }
 
-/// Appends the diff of an array behind a front.
+/// Appends the diff of an array.
 #[cycle(diff)]
 fn put_array_diff(
     alloc: Global,
     out: &mut Vec<u8>,
     levels: usize,
-    front: &[Part],
-    touches: &[Touch],
+    edits: &[Edit<'_>],
 ) -> Result<(), AllocError>
-    ensures { OnOk result (out.new.items ≡ out.old.items ++ elements_of (array_diff (diff_below levels front.now touches.now) (level front.now touches.now))) }
+    ensures { OnOk result (out.new.items ≡ out.old.items ++ elements_of (array_diff (λ r. diff levels (group r (edits_in edits.now))) (edits_in edits.now))) }
 {
     put_element(out, "a", &Value::Bool(true))?;
-    put_level(out, Kind::Length, front, touches)?;
-    let parts = parts_behind(alloc, true, front, touches)?;
-    let parts = rising(alloc, parts)?;
-    for part in parts.as_slice() {
-        put_at_part(alloc, out, levels, front, part, touches)?;
+    put_level(out, Kind::Length, edits)?;
+    let groups = rising(alloc, by_part(alloc, true, edits)?)?;
+    for group in groups.as_slice() {
+        put_at_part(alloc, out, levels, group)?;
     }
     Ok(())
 }
 
-/// Appends the diff of what touches do behind a front, of at most `levels` levels.
+/// Appends the diff of the edits of a level, of at most `levels` levels.
 #[cycle(diff)]
 fn put_diff(
     alloc: Global,
     out: &mut Vec<u8>,
     levels: usize,
-    front: &[Part],
-    touches: &[Touch],
+    edits: &[Edit<'_>],
 ) -> Result<(), AllocError>
-    ensures { OnOk result (out.new.items ≡ out.old.items ++ elements_of (diff levels (level front.now touches.now))) }
+    ensures { OnOk result (out.new.items ≡ out.old.items ++ elements_of (diff levels (edits_in edits.now))) }
 {
     if levels == 0 {
         return Ok(());
     }
-    if is_array(front, touches) {
-        put_array_diff(alloc, out, levels - 1, front, touches)
+    if is_array(edits) {
+        put_array_diff(alloc, out, levels - 1, edits)
     } else {
-        put_document_diff(alloc, out, levels - 1, front, touches)
+        put_document_diff(alloc, out, levels - 1, edits)
     }
 }
 
@@ -141,8 +137,9 @@ pub(crate) fn put_second_form(
     ensures { OnOk result (out.new.items ≡ out.old.items ++ elements_of (spelled_v2 level_limit (mapped edit_of touches.now))) }
 {
     put_element(out, "$v", &Value::Int(2))?;
+    let edits = edits_of(alloc, touches)?;
     open(out, "diff")?;
     let start = out.len();
-    put_diff(alloc, out, 200, &[], touches)?;
+    put_diff(alloc, out, 200, edits.as_slice())?;
     close(out, start)
 }

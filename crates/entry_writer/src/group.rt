@@ -86,7 +86,7 @@ fn put_front(out: &mut Vec<u8>, ts: Ts) -> Result<(), AllocError>
 }
 
 /// The bytes of the document of an entry. They are written at once, and what the entry holds isn't copied before.
-/// The time is that of the bytes, and of a delta also that of its touches times the documents and elements of its diff.
+/// The time is that of the bytes, and of a delta in the second form also that of looking each touch up in a tree at each level of its place.
 pub fn write(alloc: Global, entry: &Entry) -> Result<Bytes, AllocError>
     ensures { IfOk result (λ bytes. bytes ≡ document_text (entry_fields entry.now)) }
 {
@@ -100,7 +100,7 @@ pub fn write(alloc: Global, entry: &Entry) -> Result<Bytes, AllocError>
 }
 
 /// The bytes of a delta in this form: the document that an update's entry has in its field `o`.
-/// The time is that of the bytes, and in the second form also that of the touches times the documents and elements of the diff.
+/// The time is that of the bytes, and in the second form also that of looking each touch up in a tree at each level of its place.
 pub fn write_delta(alloc: Global, form: Form, touches: &[Touch]) -> Result<Bytes, AllocError>
     ensures { IfOk result (λ bytes. bytes ≡ document_text (written form level_limit touches.now)) }
 {

@@ -3,12 +3,15 @@ ghost use Rattle.std.specs.Prelude.{◌≡◌, ◌++◌, [], false, Some, OnOk, 
 ghost use Rattle.bson_value.specs.declared.value.Value.{Int};
 ghost use Rattle.bson_value.specs.Spelling.{spelling, element, elements_of};
 ghost use Rattle.entry_model.specs.Edits.{onto, picked, Sets, Unsets, Resizes};
-ghost use Rattle.entry_model.specs.Written.{section, l_name};
-ghost use Rattle.entry_writer.specs.Levels.{set_field, by_step, field_of, fields_of, section_name, by_part, element_of};
+ghost use Rattle.entry_model.specs.Written.{section, l_name, set_at};
+ghost use Rattle.entry_model.specs.Touches.{edit_of};
+ghost use Rattle.entry_writer.specs.Edits.{edit_in, edits_in};
+ghost use Rattle.entry_writer.specs.Levels.{set_field, by_step, field_of, fields_of, section_name};
 
+use crate::edits::{Edit, Step, step_of};
 use crate::elements::{close, open, put_element};
-use crate::fronts::{at, is_front, same_part};
 use crate::names::letter_name;
+use crate::parts::same_part;
 use bson_value::Value;
 use doc_path::{Part, Touch};
 use std::alloc::{AllocError, Global};
@@ -92,45 +95,33 @@ fn put_resize(out: &mut Vec<u8>, kind: Kind, len: u32) -> Result<(), AllocError>
     }
 }
 
-/// Appends the field that a touch gives behind a front.
-#[tactic(auto, using(crate::proofs::Seen::set_here, crate::proofs::Seen::unset_here, crate::proofs::Seen::resize_here))]
-fn put_field(out: &mut Vec<u8>, kind: Kind, front: &[Part], touch: &Touch) -> Result<(), AllocError>
-    ensures { OnOk result (out.new.items ≡ out.old.items ++ elements_of (onto (field_of kind front.now touch.now) [])) }
+/// Appends the field that the step of a touch gives.
+fn put_step(out: &mut Vec<u8>, kind: Kind, touch: &Touch) -> Result<(), AllocError>
+    ensures { OnOk result (out.new.items ≡ out.old.items ++ elements_of (onto (by_step kind (edit_of touch.now).1) [])) }
 {
-    match touch {
-        Touch::Set {
-            place,
-            value,
-            fresh,
-        } => match at(front, place) {
-            Some(part) => put_set(out, kind, part, value, *fresh),
-            None => Ok(()),
-        },
-        Touch::Unset { place } => match at(front, place) {
-            Some(part) => put_unset(out, kind, part),
-            None => Ok(()),
-        },
-        Touch::Resize { place, len } => {
-            if is_front(front, place) {
-                put_resize(out, kind, *len)
-            } else {
-                Ok(())
-            }
-        }
+    match step_of(touch) {
+        Step::Set { part, value, fresh } => put_set(out, kind, part, value, fresh),
+        Step::Unset { part } => put_unset(out, kind, part),
+        Step::Resize { len } => put_resize(out, kind, len),
     }
 }
 
-/// Appends the fields of a kind that touches give behind a front.
-pub(crate) fn put_level(
-    out: &mut Vec<u8>,
-    kind: Kind,
-    front: &[Part],
-    touches: &[Touch],
-) -> Result<(), AllocError>
-    ensures { OnOk result (out.new.items ≡ out.old.items ++ elements_of (fields_of kind front.now touches.now)) }
+/// Appends the field that an edit gives at its level.
+fn put_field(out: &mut Vec<u8>, kind: Kind, edit: &Edit<'_>) -> Result<(), AllocError>
+    ensures { OnOk result (out.new.items ≡ out.old.items ++ elements_of (onto (field_of kind (edit_in edit.now)) [])) }
 {
-    for touch in touches {
-        put_field(out, kind, front, touch)?;
+    match edit.way.split_first() {
+        None => put_step(out, kind, edit.touch),
+        Some(_) => Ok(()),
+    }
+}
+
+/// Appends the fields of a kind that edits give at their level.
+pub(crate) fn put_level(out: &mut Vec<u8>, kind: Kind, edits: &[Edit<'_>]) -> Result<(), AllocError>
+    ensures { OnOk result (out.new.items ≡ out.old.items ++ elements_of (fields_of kind (edits_in edits.now))) }
+{
+    for edit in edits {
+        put_field(out, kind, edit)?;
     }
     Ok(())
 }
@@ -150,15 +141,14 @@ fn name_of(kind: Kind) -> &'static str
 pub(crate) fn put_section(
     out: &mut Vec<u8>,
     kind: Kind,
-    front: &[Part],
-    touches: &[Touch],
+    edits: &[Edit<'_>],
 ) -> Result<(), AllocError>
-    ensures { OnOk result (out.new.items ≡ out.old.items ++ elements_of (section (section_name kind) (fields_of kind front.now touches.now))) }
+    ensures { OnOk result (out.new.items ≡ out.old.items ++ elements_of (section (section_name kind) (fields_of kind (edits_in edits.now)))) }
 {
     let end = out.len();
     open(out, name_of(kind))?;
     let start = out.len();
-    put_level(out, kind, front, touches)?;
+    put_level(out, kind, edits)?;
     if out.len() == start {
         out.truncate(end);
         return Ok(());
@@ -174,7 +164,7 @@ fn put_same(
     other: &Part,
     value: &Value,
 ) -> Result<(), AllocError>
-    ensures { OnOk result (out.new.items ≡ out.old.items ++ elements_of (onto (by_part part.now (Some (Sets other.now value.now false))) [])) }
+    ensures { OnOk result (out.new.items ≡ out.old.items ++ elements_of (onto (set_at part.now [] (Sets other.now value.now false)) [])) }
 {
     if !same_part(other, part) {
         return Ok(());
@@ -183,39 +173,52 @@ fn put_same(
     put_element(out, name.as_str(), value)
 }
 
-/// Appends the element that a touch sets at this part.
-#[tactic(auto, using(crate::proofs::Seen::set_here, crate::proofs::Seen::unset_here, crate::proofs::Seen::resize_here))]
+/// Appends the element that the step of a touch sets at this part.
+fn put_step_at(
+    alloc: Global,
+    out: &mut Vec<u8>,
+    part: &Part,
+    touch: &Touch,
+) -> Result<(), AllocError>
+    ensures { OnOk result (out.new.items ≡ out.old.items ++ elements_of (onto (set_at part.now [] (edit_of touch.now).1) [])) }
+{
+    match step_of(touch) {
+        Step::Set {
+            part: other,
+            value,
+            ..
+        } => put_same(alloc, out, part, other, value),
+        Step::Unset { .. } => Ok(()),
+        Step::Resize { .. } => Ok(()),
+    }
+}
+
+/// Appends the element that an edit sets at this part.
 fn put_element_at(
     alloc: Global,
     out: &mut Vec<u8>,
     part: &Part,
-    front: &[Part],
-    touch: &Touch,
+    edit: &Edit<'_>,
 ) -> Result<(), AllocError>
-    ensures { OnOk result (out.new.items ≡ out.old.items ++ elements_of (onto (element_of part.now front.now touch.now) [])) }
+    ensures { OnOk result (out.new.items ≡ out.old.items ++ elements_of (onto (set_at part.now (edit_in edit.now).0 (edit_in edit.now).1) [])) }
 {
-    match touch {
-        Touch::Set { place, value, .. } => match at(front, place) {
-            Some(other) => put_same(alloc, out, part, other, value),
-            None => Ok(()),
-        },
-        Touch::Unset { .. } => Ok(()),
-        Touch::Resize { .. } => Ok(()),
+    match edit.way.split_first() {
+        None => put_step_at(alloc, out, part, edit.touch),
+        Some(_) => Ok(()),
     }
 }
 
-/// Appends the elements that touches set at this part.
+/// Appends the elements that edits set at this part.
 pub(crate) fn put_elements_at(
     alloc: Global,
     out: &mut Vec<u8>,
     part: &Part,
-    front: &[Part],
-    touches: &[Touch],
+    edits: &[Edit<'_>],
 ) -> Result<(), AllocError>
-    ensures { OnOk result (out.new.items ≡ out.old.items ++ elements_of (picked (element_of part.now front.now) touches.now)) }
+    ensures { OnOk result (out.new.items ≡ out.old.items ++ elements_of (picked (λ e. set_at part.now e.0 e.1) (edits_in edits.now))) }
 {
-    for touch in touches {
-        put_element_at(alloc, out, part, front, touch)?;
+    for edit in edits {
+        put_element_at(alloc, out, part, edit)?;
     }
     Ok(())
 }

@@ -3,12 +3,14 @@
 
 mod body;
 mod diff;
+mod edits;
 mod elements;
-mod fronts;
 mod group;
+mod index;
 mod level;
 mod names;
 mod parts;
 mod paths;
+mod rising;
 
 pub use group::{write, write_delta};

@@ -47,7 +47,7 @@ fn push_dotted(alloc: Global, text: &mut Text, parts: &[Part]) -> Result<(), All
 }
 
 /// The parts with dots between them.
-#[tactic(auto, using(crate::proofs::Seen::path_is))]
+#[tactic(auto, using(crate::proofs::PathTexts::path_is))]
 pub(crate) fn path_text(alloc: Global, parts: &[Part]) -> Result<Text, AllocError>
     ensures { IfOk result (λ text. text ≡ path_of parts.now) }
 {

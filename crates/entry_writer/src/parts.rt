@@ -1,144 +1,143 @@
-//! The parts of one level of a diff.
-ghost use Rattle.std.specs.Prelude.{◌≡◌, ◌≤◌, ◌++◌, [], true, Some, length, insert, OnOk, IfOk};
-ghost use Rattle.std.specs.List.{list_any};
-ghost use Rattle.std.specs.Option.{option_copied};
-ghost use Rattle.entry_model.specs.Edits.{is_before, inserted, rising};
-ghost use Rattle.entry_model.specs.Written.{is_index, is_array};
-ghost use Rattle.entry_writer.specs.Fronts.{seen, level, part_by};
-ghost use Rattle.entry_writer.specs.Groups.{among, added, parts_behind, is_below, array_in};
+//! The edits of a level, by their parts.
+ghost use Rattle.std.specs.Prelude.{◌≡◌, ◌<◌, ◌∷◌, ◌++◌, [], length, IfOk, OnOk};
+ghost use Rattle.entry_model.specs.Edits.{same_part, onto, behind, group};
+ghost use Rattle.entry_writer.specs.Edits.{edit_in, edits_in, part_by};
+ghost use Rattle.entry_writer.specs.Groups.{groups_in, joined, put_edit, put_by, IsIndex, grouped};
 
-use crate::fronts::{below, first_behind, is_front, part_of, same_part};
-use bson_value::List;
-use doc_path::{Part, Touch};
+use crate::edits::{Edit, part_of};
+use crate::index::Index;
+use doc_path::Part;
 use std::alloc::{AllocError, Global};
 
-fn among(parts: &[Part], part: &Part) -> bool
-    ensures { result ≡ among part.now parts.now }
-{
-    parts.iter().any(|other| same_part(other, part))
+/// A part, and edits that have it.
+#[derive(Drop)]
+pub(crate) struct PartEdits<'t> {
+    pub(crate) part: &'t Part,
+    pub(crate) edits: Vec<Edit<'t>>,
 }
 
-/// Appends the part of a touch behind a front, unless it is there.
-fn add_part(
-    alloc: Global,
-    parts: &mut List<Part>,
-    at: bool,
-    front: &[Part],
-    touch: &Touch,
-) -> Result<(), AllocError>
-    ensures { OnOk result (parts.new ≡ added (part_by at (seen front.now touch.now)) parts.old) }
+/// Whether the parts are equal.
+pub(crate) fn same_part(a: &Part, b: &Part) -> bool
+    ensures { result ≡ same_part a.now b.now }
 {
-    let Some(part) = part_of(at, front, touch) else {
-        return Ok(());
-    };
-    if among(parts.as_slice(), part) {
-        return Ok(());
-    }
-    parts.push(part.copy(alloc)?)
-}
-
-/// The parts below which touches stand behind a front, each once; with `at` also those at which they set.
-pub(crate) fn parts_behind(
-    alloc: Global,
-    at: bool,
-    front: &[Part],
-    touches: &[Touch],
-) -> Result<List<Part>, AllocError>
-    ensures { IfOk result (λ ps. ps ≡ parts_behind at front.now touches.now) }
-{
-    let mut parts = List::new(alloc);
-    for touch in touches {
-        add_part(alloc, &mut parts, at, front, touch)?;
-    }
-    Ok(parts)
-}
-
-fn is_before(part: &Part, other: &Part) -> bool
-    ensures { result ≡ is_before part.now other.now }
-{
-    match part {
-        Part::Name(_) => false,
-        Part::Index(m) => match other {
+    match a {
+        Part::Name(j) => match b {
+            Part::Name(k) => j.as_str() == k.as_str(),
+            Part::Index(_) => false,
+        },
+        Part::Index(m) => match b {
             Part::Name(_) => false,
-            Part::Index(n) => *m < *n,
+            Part::Index(n) => *m == *n,
         },
     }
 }
 
-/// The place of a part among those that rise.
-fn place_among(sorted: &[Part], part: &Part) -> usize
-    ensures place { insert sorted.now result part.now ≡ inserted part.now sorted.now }
-    ensures within { result ≤ length sorted.now }
+/// Appends a part with one edit.
+fn begin<'t>(
+    alloc: Global,
+    groups: &mut Vec<PartEdits<'t>>,
+    part: &'t Part,
+    edit: &Edit<'t>,
+) -> Result<(), AllocError>
+    ensures { OnOk result (groups_in groups.new.items ≡ groups_in groups.old.items ++ (part.now, edit_in edit.now ∷ []) ∷ []) }
 {
-    for at in 0..sorted.len() {
-        if !is_before(&sorted[at], part) {
-            return at;
-        }
-    }
-    sorted.len()
+    let mut edits = Vec::new(alloc);
+    edits.push(*edit)?;
+    groups.push(PartEdits { part, edits })?;
+    Ok(())
 }
 
-/// The parts by rising index.
-pub(crate) fn rising(alloc: Global, parts: List<Part>) -> Result<List<Part>, AllocError>
-    ensures { IfOk result (λ sorted. sorted ≡ rising parts) }
+/// Appends an edit to those of the part at this place.
+fn join<'t>(groups: &mut Vec<PartEdits<'t>>, at: usize, edit: &Edit<'t>) -> Result<(), AllocError>
+    requires { at < length groups.old.items }
+    ensures { OnOk result (groups_in groups.new.items ≡ joined at (edit_in edit.now) (groups_in groups.old.items)) }
 {
-    let mut sorted = List::new(alloc);
-    let mut left = parts.into_vec();
-    'left: while let Some(part) = left.pop() {
-        let at = place_among(sorted.as_slice(), &part);
-        sorted.insert(at, part)?;
-    }
-    Ok(sorted)
+    groups[at].edits.push(*edit)?;
+    Ok(())
 }
 
-fn is_below(part: &Part, front: &[Part], touch: &Touch) -> bool
-    ensures { result ≡ is_below part.now front.now touch.now }
+/// Appends an edit to those of its part.
+fn add<'t>(
+    alloc: Global,
+    index: &mut Index,
+    groups: &mut Vec<PartEdits<'t>>,
+    part: &'t Part,
+    edit: &Edit<'t>,
+) -> Result<(), AllocError>
+    requires { IsIndex index.old (groups_in groups.old.items) }
+    ensures groups { OnOk result (groups_in groups.new.items ≡ put_edit part.now (edit_in edit.now) (groups_in groups.old.items)) }
+    ensures index { OnOk result (IsIndex index.new (groups_in groups.new.items)) }
 {
-    match below(front, touch) {
-        Some(other) => same_part(other, part),
-        None => false,
-    }
-}
-
-/// Whether a touch stands below this part behind a front.
-pub(crate) fn any_below(part: &Part, front: &[Part], touches: &[Touch]) -> bool
-    ensures { result ≡ list_any (is_below part.now front.now) touches.now }
-{
-    touches.iter().any(|touch| is_below(part, front, touch))
-}
-
-fn is_index(part: &Part) -> bool
-    ensures { result ≡ is_index part.now }
-{
-    matches!(part, Part::Index(_))
-}
-
-/// Whether a touch behind a front is one of an array.
-#[tactic(auto, using(crate::proofs::Seen::set_array, crate::proofs::Seen::unset_array, crate::proofs::Seen::resize_array))]
-fn array_of(front: &[Part], touch: &Touch) -> Option<bool>
-    ensures { result ≡ array_in (seen front.now touch.now) }
-{
-    match touch {
-        Touch::Set { place, .. } => Some(is_index(first_behind(front, place)?)),
-        Touch::Unset { place } => Some(is_index(first_behind(front, place)?)),
-        Touch::Resize { place, .. } => {
-            if is_front(front, place) {
-                Some(true)
-            } else {
-                Some(is_index(first_behind(front, place)?))
-            }
+    match index.place(part) {
+        Some(at) => join(groups, at, edit),
+        None => {
+            index.insert(alloc, part, groups.len())?;
+            begin(alloc, groups, part, edit)
         }
     }
 }
 
-/// Whether the touches behind a front are those of an array.
-pub(crate) fn is_array(front: &[Part], touches: &[Touch]) -> bool
-    ensures { result ≡ is_array (level front.now touches.now) }
+/// Appends an edit to those of its part, where it has one.
+fn add_edit<'t>(
+    alloc: Global,
+    index: &mut Index,
+    groups: &mut Vec<PartEdits<'t>>,
+    at: bool,
+    edit: &Edit<'t>,
+) -> Result<(), AllocError>
+    requires { IsIndex index.old (groups_in groups.old.items) }
+    ensures groups { OnOk result (groups_in groups.new.items ≡ put_by (part_by at (edit_in edit.now)) (edit_in edit.now) (groups_in groups.old.items)) }
+    ensures index { OnOk result (IsIndex index.new (groups_in groups.new.items)) }
 {
-    for touch in touches {
-        if let Some(array) = array_of(front, touch) {
-            return array;
-        }
+    match part_of(at, edit) {
+        Some(part) => add(alloc, index, groups, part, edit),
+        None => Ok(()),
     }
-    false
+}
+
+/// The parts below which edits are, each once, with its edits; with `at` also the parts at which edits set.
+pub(crate) fn by_part<'t>(
+    alloc: Global,
+    at: bool,
+    edits: &[Edit<'t>],
+) -> Result<Vec<PartEdits<'t>>, AllocError>
+    ensures { IfOk result (λ gs. groups_in gs.items ≡ grouped at (edits_in edits.now)) }
+{
+    let mut index = Index::new(alloc);
+    let mut groups = Vec::new(alloc);
+    for edit in edits {
+        add_edit(alloc, &mut index, &mut groups, at, edit)?;
+    }
+    Ok(groups)
+}
+
+/// Appends what an edit is below a part.
+fn push_below<'t>(inner: &mut Vec<Edit<'t>>, part: &Part, edit: &Edit<'t>) -> Result<(), AllocError>
+    ensures { OnOk result (edits_in inner.new.items ≡ edits_in inner.old.items ++ onto (behind part.now (edit_in edit.now)) []) }
+{
+    let Some((first, way)) = edit.way.split_first() else {
+        return Ok(());
+    };
+    if same_part(first, part) {
+        inner.push(Edit {
+            way,
+            touch: edit.touch,
+        })?;
+    }
+    Ok(())
+}
+
+/// The edits below a part.
+pub(crate) fn below<'t>(
+    alloc: Global,
+    part: &Part,
+    edits: &[Edit<'t>],
+) -> Result<Vec<Edit<'t>>, AllocError>
+    ensures { IfOk result (λ es. edits_in es.items ≡ group part.now (edits_in edits.now)) }
+{
+    let mut inner = Vec::new(alloc);
+    for edit in edits {
+        push_below(&mut inner, part, edit)?;
+    }
+    Ok(inner)
 }

@@ -25,7 +25,7 @@ use Rattle.schedule_report.specs.Lines.{refusals_text}
 use Rattle.schedule_dump.specs.declared.fault.RunFault.{RunFault}
 use Rattle.schedule_dump.specs.declared.fault.RunFault.TheVariants as faults
 use Rattle.schedule_dump.specs.Lines.{IsOfReport, fault_of}
-use Rattle.schedule_dump.specs.Progress.{Breaks, Ends, ends, Goes}
+use Rattle.schedule_dump.specs.Progress.{Breaks, Ends, ends, DuringDump}
 use Rattle.schedule_dump.specs.Outcomes.{TellsFirst, WritesAll, Fails, Dumps}
 use Rattle.schedule_dump.proofs.Refused.{finished_leaves}
 use Rattle.schedule_dump.proofs.Reaching.{told_first, first_front}
@@ -70,7 +70,7 @@ entries_sent (Entries es b ∷ ss) = ap (λ (i : ℕ). length es + i) (entries_s
 some_is : (a b : Ts) → Some a ≡ Some b → a ≡ b
 some_is a b e = cc
 
-module _ (s : Schedule) (store : Stored) (dump : Dumping) (first : Ends) (o q : End) (g : Goes s store dump [] first (ends o q)) where
+module _ (s : Schedule) (store : Stored) (dump : Dumping) (first : Ends) (o q : End) (g : DuringDump s store dump [] first (ends o q)) where
   whole : run s ≡ finished g.at
   whole = g.reached.whole
 

@@ -25,7 +25,7 @@ use Rattle.schedule_report.specs.Lines.{refusal_line, refusals_text}
 use Rattle.schedule_dump.specs.declared.fault.RunFault.{RunFault}
 use Rattle.schedule_dump.specs.declared.fault.RunFault.TheVariants as faults
 use Rattle.schedule_dump.specs.Lines.{IsOfReport, TellsFront, Runs, Commands, Refuses, Settles}
-use Rattle.schedule_dump.specs.Progress.{start_state, Starts, Ends, ends, Goes}
+use Rattle.schedule_dump.specs.Progress.{start_state, AtStart, Ends, ends, DuringDump}
 use Rattle.schedule_dump.specs.Outcomes.{TellsFirst, WritesAll, WritesFront, Fails, RunsOn}
 use Rattle.schedule_dump.proofs.Refused.{leaves}
 use Rattle.schedule_dump.proofs.Grown.{rest_grows, rest_ends, failing_writes, mark_stays}
@@ -75,11 +75,11 @@ meets_beside d r s b m = subst (Meets d) (sym b.is) (meets_rest d r b.stage b.ma
 -- ---- the start
 
 -- the state of the rows at the start
-at_start : (s : Schedule) (store : Stored) (rest : List (ℕ × Line)) (first now : Option (List ℕ)) (w : Starts s store rest first now) → state_of store.rows ≡ start_state s
+at_start : (s : Schedule) (store : Stored) (rest : List (ℕ × Line)) (first now : Option (List ℕ)) (w : AtStart s store rest first now) → state_of store.rows ≡ start_state s
 at_start s store rest first now w = ap state_of w.reached.stands.rows ∙ starts_on s w.on rest w.ok w.reached.whole
 
 pub goes_first : (s : Schedule) (store : Stored) (dump : Dumping) (rest : List (ℕ × Line)) (a b c d : Option (List ℕ)) → ((r : Run) → StandsAt store r.stage → r.steps ≡ [] → r.outcome ≡ Done → Meets dump (started r)) → Appends a b (prelude_text header (metas_of (state_of store.rows))) →
-    Starts s store rest c d → Goes s store dump rest (record { output = a; report = c }) (record { output = b; report = d })
+    AtStart s store rest c d → DuringDump s store dump rest (record { output = a; report = c }) (record { output = b; report = d })
 goes_first s store dump rest a b c d begun p w =
     record {
       at = started w.on;
@@ -89,18 +89,18 @@ goes_first s store dump rest a b c d begun p w =
     }
 
 -- some front of the prelude was written
-pub start_front : (s : Schedule) (store : Stored) (rest : List (ℕ × Line)) (a b c d : Option (List ℕ)) → AppendsFront a b (prelude_text header (metas_of (state_of store.rows))) → Starts s store rest c d → AppendsFront a b (written s)
+pub start_front : (s : Schedule) (store : Stored) (rest : List (ℕ × Line)) (a b c d : Option (List ℕ)) → AppendsFront a b (prelude_text header (metas_of (state_of store.rows))) → AtStart s store rest c d → AppendsFront a b (written s)
 start_front s store rest a b c d p w =
     front_first a b (prelude_text header (metas_of (start_state s))) (steps_text (reads s)) (subst (λ (t : State). AppendsFront a b (prelude_text header (metas_of t))) (at_start s store rest c d w) p)
 
-pub start_told : (s : Schedule) (store : Stored) (rest : List (ℕ × Line)) (c d : Option (List ℕ)) → Starts s store rest c d → TellsFirst s c d
+pub start_told : (s : Schedule) (store : Stored) (rest : List (ℕ × Line)) (c d : Option (List ℕ)) → AtStart s store rest c d → TellsFirst s c d
 start_told s store rest c d w = told_first s store (started w.on) rest c d w.reached
 
 -- ---- one line
 
-module _ (s : Schedule) (old : Stored) (dump : Dumping) (i : ℕ) (l : Line) (rest : List (ℕ × Line)) (first before : Ends) (g : Goes s old dump ((i, l) ∷ rest) first before) where
+module _ (s : Schedule) (old : Stored) (dump : Dumping) (i : ℕ) (l : Line) (rest : List (ℕ × Line)) (first before : Ends) (g : DuringDump s old dump ((i, l) ∷ rest) first before) where
   -- a command or a refused line
-  goes_by : (new : Stored) (after : Option (List ℕ)) → Beside g.at (after_line (i, l) g.at) → Runs (i, l) g.at new before.report after → Goes s new dump rest first (record { output = before.output; report = after })
+  goes_by : (new : Stored) (after : Option (List ℕ)) → Beside g.at (after_line (i, l) g.at) → Runs (i, l) g.at new before.report after → DuringDump s new dump rest first (record { output = before.output; report = after })
   goes_by new after b runs =
       record {
         at = after_line (i, l) g.at;
@@ -123,7 +123,7 @@ module _ (s : Schedule) (old : Stored) (dump : Dumping) (i : ℕ) (l : Line) (re
       by (faults.Renamed ts) h = absurd h
       by (faults.Rolled a b) h = absurd h
 
-  pub refused_goes : (x : Refusal) (after : Option (List ℕ)) → on_line l g.at ≡ Err x → Appends before.report after (refusal_line (i, x)) → Goes s old dump rest first (record { output = before.output; report = after })
+  pub refused_goes : (x : Refusal) (after : Option (List ℕ)) → on_line l g.at ≡ Err x → Appends before.report after (refusal_line (i, x)) → DuringDump s old dump rest first (record { output = before.output; report = after })
   refused_goes x after e a = goes_by old after (refused_beside i l x g.at e) (refused_runs i l x g.at old before.report after e g.reached.stands a)
 
   pub refused_fails : (x : Refusal) (f : RunFault) (after : Option (List ℕ)) → on_line l g.at ≡ Err x → IsOfReport f → AppendsFront before.report after (refusal_line (i, x)) → Fails f s first (record { output = before.output; report = after })
@@ -134,7 +134,7 @@ module _ (s : Schedule) (old : Stored) (dump : Dumping) (i : ℕ) (l : Line) (re
     line_is : (t : Run) → on_line l g.at ≡ Ok t → after_line (i, l) g.at ≡ t
     line_is t e = ap (λ (y : Result Run Refusal). or_refused i y g.at) e
 
-    pub step_goes : (new : Dumping) (after : Option (List ℕ)) → (t : Run) × (on_line l g.at ≡ Ok t) × Meets new t × Writes g.at t before.output after → Goes s old new rest first (record { output = after; report = before.report })
+    pub step_goes : (new : Dumping) (after : Option (List ℕ)) → (t : Run) × (on_line l g.at ≡ Ok t) × Meets new t × Writes g.at t before.output after → DuringDump s old new rest first (record { output = after; report = before.report })
     step_goes new after w =
         (let is = line_is w.0 w.1 in
         record {
@@ -193,7 +193,7 @@ module _ (s : Schedule) (old : Stored) (dump : Dumping) (i : ℕ) (l : Line) (re
     told_so_far = told_first s old g.at ((i, l) ∷ rest) first.report before.report g.reached
 
 -- what a step came to, and what the report is told of it
-module _ (s : Schedule) (old : Stored) (dump : Dumping) (i : ℕ) (l : Line) (turn : IsTurn l) (rest : List (ℕ × Line)) (first : Ends) (o q : End) (g : Goes s old dump ((i, l) ∷ rest) first (ends o q)) where
+module _ (s : Schedule) (old : Stored) (dump : Dumping) (i : ℕ) (l : Line) (turn : IsTurn l) (rest : List (ℕ × Line)) (first : Ends) (o q : End) (g : DuringDump s old dump ((i, l) ∷ rest) first (ends o q)) where
   same_ends : (p v : End) → p ≡ o → v.bytes ≡ q.bytes → ends p v ≡ ends o q
   same_ends p v e f = λ j. record { output = (e j).bytes; report = f j }
 
@@ -211,7 +211,7 @@ module _ (s : Schedule) (old : Stored) (dump : Dumping) (i : ℕ) (l : Line) (tu
   pub settled : (step : Result (Unit {0}) DumpFault) (result : Result (Unit {0}) RunFault) (new : Dumping) (p v : End) → ComesTo step (on_line l g.at) g.at dump new o p → Settles i step result q.bytes v.bytes → RunsOn result s old new rest first (ends p v)
   settled (Ok u) result new p v c t =
       subst (λ (z : Result (Unit {0}) RunFault). RunsOn z s old new rest first (ends p v)) (sym t.0)
-      (subst (λ (z : Option (List ℕ)). Goes s old new rest first (record { output = p.bytes; report = z })) (sym t.1) (step_goes s old dump i l rest first (ends o q) g turn new p.bytes c))
+      (subst (λ (z : Option (List ℕ)). DuringDump s old new rest first (record { output = p.bytes; report = z })) (sym t.1) (step_goes s old dump i l rest first (ends o q) g turn new p.bytes c))
   settled (Err steps.NotNow) result new p v c t = refused_settles NotNow result new p v c.0 c.1 c.2 t
   settled (Err steps.NoCursor) result new p v c t = refused_settles NoCursor result new p v c.0 c.1 c.2 t
   settled (Err (steps.Renamed ts)) result new p v c t =
@@ -240,11 +240,11 @@ marks_come (Err steps.WriteFault) r old new o m = absurd m
 marks_come (Err steps.NoMemory) r old new o m = absurd m
 
 -- a command, and a second start
-pub command_says : (s : Schedule) (old new : Stored) (dump : Dumping) (i : ℕ) (c : Command) (rest : List (ℕ × Line)) (first : Ends) (o q v : End) (result : Result (Unit {0}) RunFault) → Commands (i, lines.Cmd c) result old new q.bytes v.bytes → Goes s old dump ((i, lines.Cmd c) ∷ rest) first (ends o q) → RunsOn result s new dump rest first (ends o v)
+pub command_says : (s : Schedule) (old new : Stored) (dump : Dumping) (i : ℕ) (c : Command) (rest : List (ℕ × Line)) (first : Ends) (o q v : End) (result : Result (Unit {0}) RunFault) → Commands (i, lines.Cmd c) result old new q.bytes v.bytes → DuringDump s old dump ((i, lines.Cmd c) ∷ rest) first (ends o q) → RunsOn result s new dump rest first (ends o v)
 command_says s old new dump i c rest first o q v (Ok u) f g = goes_by s old dump i (lines.Cmd c) rest first (ends o q) g new v.bytes (command_beside i c g.at) (f g.at g.reached.stands)
 command_says s old new dump i c rest first o q v (Err f) h g = goes_stops s old dump i (lines.Cmd c) rest first (ends o q) g f v.bytes h.0 (h.1 g.at g.reached.stands)
 
-pub second_start : (s : Schedule) (old : Stored) (dump : Dumping) (i : ℕ) (rest : List (ℕ × Line)) (first : Ends) (o q v : End) (result : Result (Unit {0}) RunFault) → Refuses (i, NotNow) result q.bytes v.bytes → Goes s old dump ((i, lines.Dump) ∷ rest) first (ends o q) → RunsOn result s old dump rest first (ends o v)
+pub second_start : (s : Schedule) (old : Stored) (dump : Dumping) (i : ℕ) (rest : List (ℕ × Line)) (first : Ends) (o q v : End) (result : Result (Unit {0}) RunFault) → Refuses (i, NotNow) result q.bytes v.bytes → DuringDump s old dump ((i, lines.Dump) ∷ rest) first (ends o q) → RunsOn result s old dump rest first (ends o v)
 second_start s old dump i rest first o q v result t g = by result t
   where
     not_now : on_line lines.Dump g.at ≡ Err NotNow

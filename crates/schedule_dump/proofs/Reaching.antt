@@ -26,7 +26,7 @@ use Rattle.store_core.specs.declared.fault.StoreFault.TheVariants as store_fault
 use Rattle.schedule_report.specs.Lines.{refusal_line, refusals_text}
 use Rattle.schedule_dump.specs.declared.fault.RunFault.{RunFault}
 use Rattle.schedule_dump.specs.Lines.{TellsFront, Runs, Commands, Refuses}
-use Rattle.schedule_dump.specs.Progress.{Reached, Waits, Starts}
+use Rattle.schedule_dump.specs.Progress.{Progress, BeforeStart, AtStart}
 use Rattle.schedule_dump.specs.Outcomes.{TellsFirst}
 use Rattle.schedule_dump.proofs.Refused.{stopped_more, line_more}
 
@@ -103,8 +103,8 @@ refused_beside i l x r e = record { stage = r.stage; made = r.made; refused = r.
 told_two : (xs ys : List (ℕ × Refusal)) → refusals_text (xs ++ ys) ≡ refusals_text xs ++ refusals_text ys
 told_two xs ys = flat_map-append refusal_line xs ys
 
-module _ (s : Schedule) (old : Stored) (line : ℕ × Line) (rest : List (ℕ × Line)) (at : Run) (first before after : Option (List ℕ)) (r : Reached s old at (line ∷ rest) first before) where
-  pub reached_on : (new : Stored) → (after_line line at).outcome ≡ Done → Runs line at new before after → Reached s new (after_line line at) rest first after
+module _ (s : Schedule) (old : Stored) (line : ℕ × Line) (rest : List (ℕ × Line)) (at : Run) (first before after : Option (List ℕ)) (r : Progress s old at (line ∷ rest) first before) where
+  pub reached_on : (new : Stored) → (after_line line at).outcome ≡ Done → Runs line at new before after → Progress s new (after_line line at) rest first after
   reached_on new done w =
       record {
         stands = w.0;
@@ -123,7 +123,7 @@ module _ (s : Schedule) (old : Stored) (line : ℕ × Line) (rest : List (ℕ ×
       (front_next first before after (refusals_text at.refused) (refusals_text w.0 ++ refusals_text more.0) r.told (front_first before after (refusals_text w.0) (refusals_text more.0) w.2)))
 
 -- some first lines of those that are refused are told
-pub told_first : (s : Schedule) (store : Stored) (at : Run) (rest : List (ℕ × Line)) (first now : Option (List ℕ)) → Reached s store at rest first now → TellsFirst s first now
+pub told_first : (s : Schedule) (store : Stored) (at : Run) (rest : List (ℕ × Line)) (first now : Option (List ℕ)) → Progress s store at rest first now → TellsFirst s first now
 told_first s store at rest first now r =
     (let more = stopped_more rest at in
     (at.refused, more.0, ap (λ (z : Run). z.refused) r.stops ∙ more.1, r.told))
@@ -143,7 +143,7 @@ early l r (inl h) e = ap (λ (x : Line). on_line x r) h.2 ∙ ap (λ (o : Option
 early l r (inr (inl h)) e = ap (λ (x : Line). on_line x r) h ∙ ap (λ (o : Option DumpState). in_dump marked o r) e
 early l r (inr (inr h)) e = ap (λ (x : Line). on_line x r) h.1 ∙ ap (λ (o : Option DumpState). in_dump (tailed h.0) o r) e
 
-pub at_first : (s : Schedule) (store : Stored) (a : Option (List ℕ)) → RunsStayOk → AreWellFormedLines s.lines → StandsAt store (first_stage s.caps) → Waits s store s.lines a a
+pub at_first : (s : Schedule) (store : Stored) (a : Option (List ℕ)) → RunsStayOk → AreWellFormedLines s.lines → StandsAt store (first_stage s.caps) → BeforeStart s store s.lines a a
 at_first s store a stay formed stands =
     record {
       at = first_run s.caps;
@@ -159,8 +159,8 @@ at_first s store a stay formed stands =
       };
     }
 
-module _ (s : Schedule) (old : Stored) (i : ℕ) (l : Line) (rest : List (ℕ × Line)) (first before after : Option (List ℕ)) (w : Waits s old ((i, l) ∷ rest) first before) where
-  waits_by : (new : Stored) → Beside w.at (after_line (i, l) w.at) → Runs (i, l) w.at new before after → Waits s new rest first after
+module _ (s : Schedule) (old : Stored) (i : ℕ) (l : Line) (rest : List (ℕ × Line)) (first before after : Option (List ℕ)) (w : BeforeStart s old ((i, l) ∷ rest) first before) where
+  waits_by : (new : Stored) → Beside w.at (after_line (i, l) w.at) → Runs (i, l) w.at new before after → BeforeStart s new rest first after
   waits_by new b runs =
       record {
         at = after_line (i, l) w.at;
@@ -174,22 +174,22 @@ module _ (s : Schedule) (old : Stored) (i : ℕ) (l : Line) (rest : List (ℕ ×
   not_now h = early l w.at h w.none
 
   -- a step of the dump has no place
-  pub waits_refused : IsEarly l → Appends before after (refusal_line (i, NotNow)) → Waits s old rest first after
+  pub waits_refused : IsEarly l → Appends before after (refusal_line (i, NotNow)) → BeforeStart s old rest first after
   waits_refused h a = waits_by old (refused_beside i l NotNow w.at (not_now h)) (refused_runs i l NotNow w.at old before after (not_now h) w.reached.stands a)
 
   pub waits_stops : IsEarly l → AppendsFront before after (refusal_line (i, NotNow)) → AppendsFront first after (refusals_text (refusals_told s))
   waits_stops h a = line_stops s old (i, l) rest w.at first before after w.reached (refused_front i l NotNow w.at before after (not_now h) a)
 
-pub waits_command : (s : Schedule) (old new : Stored) (i : ℕ) (c : Command) (rest : List (ℕ × Line)) (first before after : Option (List ℕ)) → ((r : Run) → StandsAt old r.stage → Runs (i, lines.Cmd c) r new before after) → Waits s old ((i, lines.Cmd c) ∷ rest) first before → Waits s new rest first after
+pub waits_command : (s : Schedule) (old new : Stored) (i : ℕ) (c : Command) (rest : List (ℕ × Line)) (first before after : Option (List ℕ)) → ((r : Run) → StandsAt old r.stage → Runs (i, lines.Cmd c) r new before after) → BeforeStart s old ((i, lines.Cmd c) ∷ rest) first before → BeforeStart s new rest first after
 waits_command s old new i c rest first before after f w = waits_by s old i (lines.Cmd c) rest first before after w new (command_beside i c w.at) (f w.at w.reached.stands)
 
-pub waits_command_stops : (s : Schedule) (old : Stored) (i : ℕ) (c : Command) (rest : List (ℕ × Line)) (first before after : Option (List ℕ)) → ((r : Run) → StandsAt old r.stage → TellsFront (i, lines.Cmd c) r before after) → Waits s old ((i, lines.Cmd c) ∷ rest) first before →
+pub waits_command_stops : (s : Schedule) (old : Stored) (i : ℕ) (c : Command) (rest : List (ℕ × Line)) (first before after : Option (List ℕ)) → ((r : Run) → StandsAt old r.stage → TellsFront (i, lines.Cmd c) r before after) → BeforeStart s old ((i, lines.Cmd c) ∷ rest) first before →
     AppendsFront first after (refusals_text (refusals_told s))
 waits_command_stops s old i c rest first before after f w = line_stops s old (i, lines.Cmd c) rest w.at first before after w.reached (f w.at w.reached.stands)
 
 -- ---- the start
 
-pub starts_here : (s : Schedule) (store : Stored) (i : ℕ) (rest : List (ℕ × Line)) (first now : Option (List ℕ)) → Waits s store ((i, lines.Dump) ∷ rest) first now → Starts s store rest first now
+pub starts_here : (s : Schedule) (store : Stored) (i : ℕ) (rest : List (ℕ × Line)) (first now : Option (List ℕ)) → BeforeStart s store ((i, lines.Dump) ∷ rest) first now → AtStart s store rest first now
 starts_here s store i rest first now w =
     (let r = w.reached in
     let is : after_line (i, lines.Dump) w.at ≡ started w.at = ap (λ (o : Option DumpState). or_refused i (dumped o w.at) w.at) w.none in
@@ -211,7 +211,7 @@ ends_good : (s : Schedule) (at : Run) → RunOk s.caps at → (front back : List
 ends_good s at ok [] back e = (ok.0, tt)
 ends_good s at ok (l ∷ ls) back e = cc
 
-starts_at_none : (s : Schedule) (store : Stored) (first now : Option (List ℕ)) → Waits s store [] first now → Starts s store [] first now
+starts_at_none : (s : Schedule) (store : Stored) (first now : Option (List ℕ)) → BeforeStart s store [] first now → AtStart s store [] first now
 starts_at_none s store first now w =
     (let r = w.reached in
     let is : finished w.at ≡ finished (started w.at) = ap (λ (o : Option DumpState). tailed_out (marked_out (copied_out (names_in (begun o w.at).dump) (begun o w.at)))) w.none in
@@ -230,6 +230,6 @@ starts_at_none s store first now w =
       };
     })
 
-pub starts_at_end : (s : Schedule) (store : Stored) (rest : List (ℕ × Line)) (first now : Option (List ℕ)) → rest ≡ [] → Waits s store rest first now → Starts s store rest first now
+pub starts_at_end : (s : Schedule) (store : Stored) (rest : List (ℕ × Line)) (first now : Option (List ℕ)) → rest ≡ [] → BeforeStart s store rest first now → AtStart s store rest first now
 starts_at_end s store rest first now e w =
-    subst (λ (z : List (ℕ × Line)). Starts s store z first now) (sym e) (starts_at_none s store first now (subst (λ (z : List (ℕ × Line)). Waits s store z first now) e w))
+    subst (λ (z : List (ℕ × Line)). AtStart s store z first now) (sym e) (starts_at_none s store first now (subst (λ (z : List (ℕ × Line)). BeforeStart s store z first now) e w))

@@ -12,7 +12,7 @@ use Rattle.store_core.specs.Stores.{Stored}
 use Rattle.schedule_report.specs.Lines.{refusals_text}
 use Rattle.schedule_dump.specs.declared.fault.RunFault.{RunFault}
 use Rattle.schedule_dump.specs.declared.fault.RunFault.TheVariants as faults
-use Rattle.schedule_dump.specs.Progress.{Ends, Goes}
+use Rattle.schedule_dump.specs.Progress.{Ends, DuringDump}
 
 -- the moments of a schedule's dump, the number of documents that it read, and that of the entries in its window
 pub record IsReport (report : DumpReport) (s : Schedule) : Type 0 where
@@ -47,9 +47,9 @@ pub record Dumps (report : DumpReport) (s : Schedule) (before after : Ends) : Ty
 
 -- the run goes on beside the dump, or has ended
 abbrev pub RunsOn : Result (Unit {0}) RunFault → Schedule → Stored → Dumping → List (ℕ × Line) → Ends → Ends → Type 0
-RunsOn (Ok u) s store dump rest before after = Goes s store dump rest before after
+RunsOn (Ok u) s store dump rest before after = DuringDump s store dump rest before after
 RunsOn (Err fault) s store dump rest before after = Fails fault s before after
 
-abbrev pub Comes : Result DumpReport RunFault → Schedule → Ends → Ends → Type 0
-Comes (Ok report) s before after = Dumps report s before after
-Comes (Err fault) s before after = Fails fault s before after
+abbrev pub RunOutcome : Result DumpReport RunFault → Schedule → Ends → Ends → Type 0
+RunOutcome (Ok report) s before after = Dumps report s before after
+RunOutcome (Err fault) s before after = Fails fault s before after

@@ -23,7 +23,7 @@ abbrev pub start_state : Schedule → State
 start_state s = state_at (moments s).start (history s)
 
 -- the store stands where this run does, which these lines lead on to the run of the whole schedule; what was refused on it is told
-pub record Reached (s : Schedule) (store : Stored) (at : Run) (rest : List (ℕ × Line)) (before after : Option (List ℕ)) : Type 0 where
+pub record Progress (s : Schedule) (store : Stored) (at : Run) (rest : List (ℕ × Line)) (before after : Option (List ℕ)) : Type 0 where
   pub stands : StandsAt store at.stage
   pub good : (front back : List (ℕ × Line)) → rest ≡ front ++ back → RunOk s.caps (after_lines front at)
   pub whole : run s ≡ finished (after_lines rest at)
@@ -31,20 +31,20 @@ pub record Reached (s : Schedule) (store : Stored) (at : Run) (rest : List (ℕ 
   pub told : Appends before after (refusals_text at.refused)
 
 -- the dump hasn't started
-pub record Waits (s : Schedule) (store : Stored) (rest : List (ℕ × Line)) (before after : Option (List ℕ)) : Type 0 where
+pub record BeforeStart (s : Schedule) (store : Stored) (rest : List (ℕ × Line)) (before after : Option (List ℕ)) : Type 0 where
   pub at : Run
   pub none : at.dump ≡ None
   pub empty : at.steps ≡ []
   pub done : at.outcome ≡ Done
-  pub reached : Reached s store at rest before after
+  pub reached : Progress s store at rest before after
 
 -- the dump is to start, and then these lines follow
-pub record Starts (s : Schedule) (store : Stored) (rest : List (ℕ × Line)) (before after : Option (List ℕ)) : Type 0 where
+pub record AtStart (s : Schedule) (store : Stored) (rest : List (ℕ × Line)) (before after : Option (List ℕ)) : Type 0 where
   pub on : Run
   pub empty : on.steps ≡ []
   pub done : on.outcome ≡ Done
   pub ok : RunOk s.caps on
-  pub reached : Reached s store (started on) rest before after
+  pub reached : Progress s store (started on) rest before after
 
 -- some front of what is told of the whole schedule was told
 abbrev pub Breaks : RunFault → Schedule → Option (List ℕ) → Option (List ℕ) → Type 0
@@ -52,13 +52,13 @@ Breaks fault s before after = IsOfReport fault × AppendsFront before after (ref
 
 -- behind a line: whether the dump starts with it
 abbrev pub RunsBefore : Result Bool RunFault → Schedule → Stored → List (ℕ × Line) → Option (List ℕ) → Option (List ℕ) → Type 0
-RunsBefore (Ok true) s store rest before after = Starts s store rest before after
-RunsBefore (Ok false) s store rest before after = Waits s store rest before after
+RunsBefore (Ok true) s store rest before after = AtStart s store rest before after
+RunsBefore (Ok false) s store rest before after = BeforeStart s store rest before after
 RunsBefore (Err fault) s store rest before after = Breaks fault s before after
 
 -- behind the lines before the start: those that are left
 abbrev pub GetsToStart : Result (Bor (List NumberedLine)) RunFault → Schedule → Stored → Option (List ℕ) → Option (List ℕ) → Type 0
-GetsToStart (Ok rest) s store before after = Starts s store (each numbered rest.now) before after
+GetsToStart (Ok rest) s store before after = AtStart s store (each numbered rest.now) before after
 GetsToStart (Err fault) s store before after = Breaks fault s before after
 
 -- the bytes of the output and of the report, where they are known
@@ -70,8 +70,8 @@ abbrev pub ends : End → End → Ends
 ends output report = record { output = output.bytes; report = report.bytes }
 
 -- the dump has started and goes on beside the store: what its steps write is written
-pub record Goes (s : Schedule) (store : Stored) (dump : Dumping) (rest : List (ℕ × Line)) (before after : Ends) : Type 0 where
+pub record DuringDump (s : Schedule) (store : Stored) (dump : Dumping) (rest : List (ℕ × Line)) (before after : Ends) : Type 0 where
   pub at : Run
   pub meets : Meets dump at
   pub wrote : Appends before.output after.output (text_of_steps (start_state s) at.steps)
-  pub reached : Reached s store at rest before.report after.report
+  pub reached : Progress s store at rest before.report after.report

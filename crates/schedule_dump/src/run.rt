@@ -4,8 +4,8 @@ ghost use Rattle.tool_io.specs.Causes.{Rose};
 ghost use Rattle.history_model.specs.WellFormed.{AreWellFormedLines};
 ghost use Rattle.history_model.specs.Runs.{Schedule as Model};
 ghost use Rattle.schedule_report.specs.Schedules.{schedule_in, numbered};
-ghost use Rattle.schedule_dump.specs.Progress.{Starts, ends};
-ghost use Rattle.schedule_dump.specs.Outcomes.{Comes};
+ghost use Rattle.schedule_dump.specs.Progress.{AtStart, ends};
+ghost use Rattle.schedule_dump.specs.Outcomes.{RunOutcome};
 
 use crate::fault::{RunFault, fault_of};
 use crate::start::run_up_to_start;
@@ -26,10 +26,10 @@ fn dump_beside<K: Sink, R: Sink>(
     output: &mut K,
     report: &mut R,
 ) -> Result<DumpReport, RunFault>
-    ensures comes { (s : Model) → (first : Option (List ℕ)) → AreWellFormedLines s.lines → Starts s store (each numbered lines.now) first (R.end report.old).bytes → Comes result s (record { output = (K.end output.old).bytes; report = first }) (ends (K.end output.new) (R.end report.new)) }
+    ensures comes { (s : Model) → (first : Option (List ℕ)) → AreWellFormedLines s.lines → AtStart s store (each numbered lines.now) first (R.end report.old).bytes → RunOutcome result s (record { output = (K.end output.old).bytes; report = first }) (ends (K.end output.new) (R.end report.new)) }
     ensures written { (K.end output.old).faults ≤ (K.end output.new).faults }
     ensures told { (R.end report.old).faults ≤ (R.end report.new).faults }
-    ensures output { (s : Model) → (first : Option (List ℕ)) → Starts s store (each numbered lines.now) first (R.end report.old).bytes → IsErrOf result RunFault.OutputFault → Rose (K.end output.old).faults (K.end output.new).faults }
+    ensures output { (s : Model) → (first : Option (List ℕ)) → AtStart s store (each numbered lines.now) first (R.end report.old).bytes → IsErrOf result RunFault.OutputFault → Rose (K.end output.old).faults (K.end output.new).faults }
     ensures report { IsErrOf result RunFault.ReportFault → Rose (R.end report.old).faults (R.end report.new).faults }
 {
     done_is_healed_before();
@@ -58,7 +58,7 @@ pub fn dump<K: Sink, R: Sink>(
 ) -> Result<DumpReport, RunFault>
     requires least { 1 ≤ schedule.now.cap }
     requires most { schedule.now.cap ≤ 1000000 }
-    ensures comes { Comes result (schedule_in schedule.now) (ends (K.end output.old) (R.end report.old)) (ends (K.end output.new) (R.end report.new)) }
+    ensures comes { RunOutcome result (schedule_in schedule.now) (ends (K.end output.old) (R.end report.old)) (ends (K.end output.new) (R.end report.new)) }
     ensures written { (K.end output.old).faults ≤ (K.end output.new).faults }
     ensures told { (R.end report.old).faults ≤ (R.end report.new).faults }
     ensures output { IsErrOf result RunFault.OutputFault → Rose (K.end output.old).faults (K.end output.new).faults }

@@ -4,7 +4,7 @@ ghost use Rattle.tool_io.specs.Causes.{Rose};
 ghost use Rattle.schedule_model.specs.declared.line.Line.{Line as Ran};
 ghost use Rattle.history_model.specs.Runs.{Schedule as Model};
 ghost use Rattle.schedule_report.specs.Schedules.{numbered};
-ghost use Rattle.schedule_dump.specs.Progress.{Waits, RunsBefore, GetsToStart};
+ghost use Rattle.schedule_dump.specs.Progress.{BeforeStart, RunsBefore, GetsToStart};
 
 use crate::command::{refuse, run_command};
 use crate::fault::RunFault;
@@ -22,7 +22,7 @@ fn run_line_before<R: Sink>(
     line: &NumberedLine,
     report: &mut R,
 ) -> Result<bool, RunFault>
-    ensures runs { (s : Model) → (first : Option (List ℕ)) → (rest : List (ℕ × Ran)) → Waits s store.old (numbered line.now ∷ rest) first (R.end report.old).bytes → RunsBefore result s store.new rest first (R.end report.new).bytes }
+    ensures runs { (s : Model) → (first : Option (List ℕ)) → (rest : List (ℕ × Ran)) → BeforeStart s store.old (numbered line.now ∷ rest) first (R.end report.old).bytes → RunsBefore result s store.new rest first (R.end report.new).bytes }
     ensures later { (R.end report.old).faults ≤ (R.end report.new).faults }
     ensures failed { IsErrOf result RunFault.ReportFault → Rose (R.end report.old).faults (R.end report.new).faults }
 {
@@ -49,7 +49,7 @@ pub fn run_up_to_start<'a, R: Sink>(
     lines: &'a [NumberedLine],
     report: &mut R,
 ) -> Result<&'a [NumberedLine], RunFault>
-    ensures gets { (s : Model) → (first : Option (List ℕ)) → Waits s store.old (each numbered lines.now) first (R.end report.old).bytes → GetsToStart result s store.new first (R.end report.new).bytes }
+    ensures gets { (s : Model) → (first : Option (List ℕ)) → BeforeStart s store.old (each numbered lines.now) first (R.end report.old).bytes → GetsToStart result s store.new first (R.end report.new).bytes }
     ensures later { (R.end report.old).faults ≤ (R.end report.new).faults }
     ensures failed { IsErrOf result RunFault.ReportFault → Rose (R.end report.old).faults (R.end report.new).faults }
 {

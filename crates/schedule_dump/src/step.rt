@@ -5,7 +5,7 @@ ghost use Rattle.schedule_model.specs.declared.line.Line.{Line as Ran};
 ghost use Rattle.history_model.specs.Runs.{Schedule as Model};
 ghost use Rattle.schedule_report.specs.Schedules.{numbered};
 ghost use Rattle.schedule_dump.specs.Lines.{Settles};
-ghost use Rattle.schedule_dump.specs.Progress.{Goes, Ends, ends};
+ghost use Rattle.schedule_dump.specs.Progress.{DuringDump, Ends, ends};
 ghost use Rattle.schedule_dump.specs.Outcomes.{RunsOn};
 
 use crate::command::{refuse, run_command};
@@ -50,7 +50,7 @@ fn run_line<K: Sink, R: Sink>(
     output: &mut K,
     report: &mut R,
 ) -> Result<(), RunFault>
-    ensures runs { (s : Model) → (first : Ends) → (rest : List (ℕ × Ran)) → Goes s store.old dump.old (numbered line.now ∷ rest) first (ends (K.end output.old) (R.end report.old)) → RunsOn result s store.new dump.new rest first (ends (K.end output.new) (R.end report.new)) }
+    ensures runs { (s : Model) → (first : Ends) → (rest : List (ℕ × Ran)) → DuringDump s store.old dump.old (numbered line.now ∷ rest) first (ends (K.end output.old) (R.end report.old)) → RunsOn result s store.new dump.new rest first (ends (K.end output.new) (R.end report.new)) }
     ensures going { dump.old.failed ≡ None → OnOk result (dump.new.failed ≡ None) }
     ensures written { (K.end output.old).faults ≤ (K.end output.new).faults }
     ensures told { (R.end report.old).faults ≤ (R.end report.new).faults }
@@ -84,7 +84,7 @@ pub fn run_beside<K: Sink, R: Sink>(
     output: &mut K,
     report: &mut R,
 ) -> Result<(), RunFault>
-    ensures runs { (s : Model) → (first : Ends) → Goes s store.old dump.old (each numbered lines.now) first (ends (K.end output.old) (R.end report.old)) → RunsOn result s store.new dump.new [] first (ends (K.end output.new) (R.end report.new)) }
+    ensures runs { (s : Model) → (first : Ends) → DuringDump s store.old dump.old (each numbered lines.now) first (ends (K.end output.old) (R.end report.old)) → RunsOn result s store.new dump.new [] first (ends (K.end output.new) (R.end report.new)) }
     ensures going { dump.old.failed ≡ None → OnOk result (dump.new.failed ≡ None) }
     ensures written { (K.end output.old).faults ≤ (K.end output.new).faults }
     ensures told { (R.end report.old).faults ≤ (R.end report.new).faults }

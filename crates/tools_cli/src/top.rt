@@ -89,6 +89,23 @@ fn run<S: Source, K: Sink, R: Sink>(
     }
 }
 
+// The whole call, and what it comes to by the words.
+fn answer<S: Source, K: Sink, R: Sink>(
+    alloc: Global,
+    words: &[String],
+    input: &mut S,
+    output: &mut K,
+    report: &mut R,
+) -> u8
+    ensures { Answers (meaning_of (texts_of words.now)) result
+        (turn (S.end input.old) (S.end input.new))
+        (turn (K.end output.old) (K.end output.new))
+        (turn (R.end report.old) (R.end report.new)) }
+{
+    let status = run(alloc, words, input, output, report);
+    tell(alloc, status, report).code()
+}
+
 /// All that the program does: reads the input, writes the output, tells a line on the report where the status isn't 0, and
 /// answers the status. Where it restores the archive of a dump with status 0, the output is the listing of the source; and
 /// there the status is 0, or that of missing memory, as long as the input and the output don't fail.
@@ -115,6 +132,5 @@ pub fn tools<S: Source, K: Sink, R: Sink>(
     read_is_dumped();
     archives_are_short();
     names_stay();
-    let status = run(alloc, words, input, output, report);
-    tell(alloc, status, report).code()
+    answer(alloc, words, input, output, report)
 }

@@ -22,7 +22,7 @@ within_few n m e = by (nat_le 1 n && nat_le n 100000) refl e
     by : (b : Bool) → (nat_le 1 n && nat_le n 100000) ≡ b → (if b then Some n else None) ≡ Some m → IsFew m
     by false h f = cc
     by true h f =
-        let k = and_parts _ _ h in
+        let k : (nat_le 1 n ≡ true) × (nat_le n 100000 ≡ true) = and_parts (nat_le 1 n) (nat_le n 100000) h in
         let same : n ≡ m = cc in
         (omega (leb-true 1 n k.0, same, arith), omega (leb-true n 100000 k.1, same, arith))
 
@@ -35,11 +35,11 @@ few_in (values.Pattern p) m e = cc
 
 few_given : (gs : List Given) → IsFew (rounds_given gs)
 few_given [] = (omega arith, omega arith)
-few_given (g ∷ gs) = by (rounds_in g.value) refl
+few_given (g ∷ gs) = by (rounds_in g.value) refl (few_given gs)
   where
-    by : (o : Option ℕ) → rounds_in g.value ≡ o → IsFew (elim o [ Some n ↦ n | None ↦ rounds_given gs ])
-    by None e = few_given gs
-    by (Some n) e = few_in g.value n e
+    by : (o : Option ℕ) → rounds_in g.value ≡ o → IsFew (rounds_given gs) → IsFew (elim o [ Some n ↦ n | None ↦ rounds_given gs ])
+    by None e rest = rest
+    by (Some n) e rest = few_in g.value n e
 
 order_few : (verb : Verb) (gs : List Given) (n : ℕ) → order_of verb gs ≡ orders.Drill n → IsFew n
 order_few verbs.Drill gs n e = let same : rounds_given gs ≡ n = cc in subst IsFew same (few_given gs)

@@ -85,7 +85,12 @@ impl Script {
     }
 
     // Whether each call of this end that fails has the wanted answer, and some call fails.
-    fn each_is_wanted(&self, alloc: Global, words: &[String], end: End) -> Result<bool, AllocError> {
+    fn each_is_wanted(
+        &self,
+        alloc: Global,
+        words: &[String],
+        end: End,
+    ) -> Result<bool, AllocError> {
         let whole = self.call_with(alloc, words, None)?;
         for number in 0..10_000u64 {
             let failure = Some(Failure { end, call: number });

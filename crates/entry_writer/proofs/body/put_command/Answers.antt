@@ -4,7 +4,7 @@ use Rattle.bson_value.specs.declared.value.Value.{Str}
 use Rattle.bson_value.specs.Spelling.{elements_of}
 use Rattle.entry_model.specs.Written.{Fields}
 use Rattle.entry_model.specs.Spelling.{namespace_text}
-use Rattle.oplog_entry.proofs.Diffs.{on_ok}
+use Rattle.std.proofs.lemmas.Result.{on_ok_weaker}
 use Rattle.entry_writer.proofs.Bytes.{put_in, as_fields, both_put}
 use Rattle.entry_writer.proofs.body.put_command.Goals as goal
 
@@ -13,7 +13,7 @@ heading ns = (codes "op", Str (codes "c")) ∷ (codes "ns", Str ns) ∷ []
 
 pub returns : goal.returns
 returns c =
-    on_ok c.close.result _ _
+    on_ok_weaker c.close.result
     (λ h. put_in c.args.out.now.items c.put_head.new.out.items c.open.new.out.items c.put_fields.new.out.items c.close.new.out.items (codes "o") (heading (namespace_text c.args.ns.now.db (codes "$cmd"))) ((c.args.name.now, c.args.value.now) ∷ c.args.fields.now) c.len-start.result
     (c.in_ok-put_head.ensures ∙ ap (λ (ns : List ℕ). c.args.out.now.items ++ elements_of (heading ns)) (c.in_ok-text.ensures ∙ ap (λ (db : List ℕ). namespace_text db (codes "$cmd")) c.as_str.ensures))
     c.in_ok-open.ensures (c.len-start.ensures ∙ c.open.new.out.ok.0)

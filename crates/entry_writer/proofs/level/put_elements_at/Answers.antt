@@ -1,8 +1,9 @@
-use Rattle.entry_writer.specs.Levels.{element_of}
-use Rattle.entry_writer.proofs.Bytes.{picked_put}
+use Rattle.entry_model.specs.Written.{set_at}
+use Rattle.entry_writer.specs.Edits.{edit_in}
+use Rattle.entry_writer.proofs.Bytes.{picked_of_put}
 use Rattle.entry_writer.proofs.level.put_elements_at.Goals as goal
 
-pub loop-touch-preserved : goal.loop-touch-preserved
-loop-touch-preserved c =
-    picked_put (element_of c.args.part.now c.args.front.now) c.args.touches.now c.loop-touch.touch-index c.touch-item.result c.args.out.now.items c.loop-touch.out.items c.put_element_at.new.out.items
-    c.loop-touch-test.true c.touch-item.is c.loop-touch.invariant c.in_ok-put_element_at.ensures
+pub loop-edit-preserved : goal.loop-edit-preserved
+loop-edit-preserved c =
+    picked_of_put (λ e. set_at c.args.part.now e.0 e.1) edit_in c.args.edits.now c.loop-edit.edit-index c.edit-item.result c.args.out.now.items c.loop-edit.out.items c.put_element_at.new.out.items
+    c.loop-edit-test.true c.edit-item.is c.loop-edit.invariant c.in_ok-put_element_at.ensures

@@ -1,4 +1,4 @@
-use Rattle.entry_writer.proofs.Seen.{dotted_more}
+use Rattle.entry_writer.proofs.PathTexts.{dotted_more}
 use Rattle.entry_writer.proofs.names.push_dotted.Goals as goal
 
 pub loop-part-preserved : goal.loop-part-preserved

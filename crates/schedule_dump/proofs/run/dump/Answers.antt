@@ -6,7 +6,7 @@ use Rattle.history_model.specs.Laws.{RunsStayOk}
 use Rattle.history_model.specs.Runs.{Schedule, first_stage}
 use Rattle.store_core.specs.Stores.{Stored, StandsAt}
 use Rattle.schedule_report.specs.Schedules.{schedule_in, numbered}
-use Rattle.schedule_dump.specs.Progress.{Waits}
+use Rattle.schedule_dump.specs.Progress.{BeforeStart}
 use Rattle.schedule_dump.proofs.Reaching.{at_first}
 use Rattle.schedule_dump.proofs.Coming.{breaks, never_output}
 use Rattle.schedule_dump.proofs.run.dump.Goals as goal
@@ -14,9 +14,9 @@ use Rattle.schedule_dump.proofs.run.dump.Goals as goal
 formed : (lines xs : List NumberedLine) → xs ≡ lines → AreWellFormedLines (each numbered xs) → AreWellFormedLines (each numbered lines)
 formed lines xs e h = subst (λ (x : List NumberedLine). AreWellFormedLines (each numbered x)) e h
 
-waits : (s : Schedule) (store : Stored) (lines xs : List NumberedLine) (a : Option (List ℕ)) → s.lines ≡ each numbered lines → xs ≡ lines → RunsStayOk → AreWellFormedLines s.lines → StandsAt store (first_stage s.caps) → Waits s store (each numbered xs) a a
+waits : (s : Schedule) (store : Stored) (lines xs : List NumberedLine) (a : Option (List ℕ)) → s.lines ≡ each numbered lines → xs ≡ lines → RunsStayOk → AreWellFormedLines s.lines → StandsAt store (first_stage s.caps) → BeforeStart s store (each numbered xs) a a
 waits s store lines xs a is e stay f at =
-    subst (λ (x : List NumberedLine). Waits s store (each numbered x) a a) (sym e) (subst (λ (ls : List (ℕ × Line)). Waits s store ls a a) is (at_first s store a stay f at))
+    subst (λ (x : List NumberedLine). BeforeStart s store (each numbered x) a a) (sym e) (subst (λ (ls : List (ℕ × Line)). BeforeStart s store ls a a) is (at_first s store a stay f at))
 
 pub returns-in-Ok-run_up_to_start-clause-comes : goal.returns-in-Ok-run_up_to_start-clause-comes
 returns-in-Ok-run_up_to_start-clause-comes g c =

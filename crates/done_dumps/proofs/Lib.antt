@@ -1,0 +1,9 @@
+pub mod Behind
+pub mod Room
+pub mod Renames
+pub mod Calm
+pub mod Few
+pub mod Started
+pub mod Marked
+pub mod Ends
+pub mod Sources

@@ -1,0 +1,195 @@
+//! The calls of a script, by their verbs:
+//!
+//! - `new N`: a new store, whose oplog holds N entries, and no dump; `fail N`: the write of this number, from 0, to the sink of the next
+//!   dump fails.
+//! - `do LINE`: a command to the store, checked and then run: how many entries it records, or why it is refused. Where ` / ` stands, a
+//!   line of the schedule ends.
+//! - `start`, `copy NS N`, `mark`, `tail N`, `finish`: the calls of a dump; `wrote`: how many bytes it has written.
+//! - `recorded`: how many entries the store has recorded.
+//! - `restore`, `replay`: what the program tells on its report of a restore of these bytes, or how many bytes it lists.
+use anyhow::{Result, bail};
+use bson_value::NsName;
+use dump_run::{Dump, DumpFault};
+use row_script::Respondent;
+use schedule_model::Line;
+use schedule_text::Schedule;
+use std::alloc::Global;
+use store_core::{Store, StoreFault};
+use tool_io::{MemSink, MemSource};
+use tools_cli::tools;
+
+/// Where the calls stand.
+#[derive(Drop)]
+pub struct Calls {
+    store: Store,
+    sink: MemSink,
+    dump: Option<Dump>,
+}
+
+fn told(alloc: Global, answer: std::result::Result<(), DumpFault>) -> Result<String> {
+    match answer {
+        Ok(()) => Ok(String::from_str(alloc, "done")?),
+        Err(fault) => Ok(format!(in alloc; "{fault:?}")?),
+    }
+}
+
+fn number(text: &str) -> Result<u32> {
+    Ok(text.parse::<u32>()?)
+}
+
+// The text of a schedule with a line end for each ` / `.
+fn lines_of(alloc: Global, text: &str) -> Result<String> {
+    let mut lines = String::new(alloc);
+    for line in text.split(" / ") {
+        lines.push_str(line)?;
+        lines.push_str("\n")?;
+    }
+    Ok(lines)
+}
+
+// The first write to a sink that fails is that of this number, if there is one.
+fn sink(alloc: Global, failing: Option<u64>) -> Result<MemSink> {
+    let mut fails = Vec::new(alloc);
+    if let Some(write) = failing {
+        fails.push(write)?;
+    }
+    Ok(MemSink::new(alloc, fails))
+}
+
+// What the program tells of a restore of these bytes, or how long its listing is.
+fn restored(alloc: Global, archive: &[u8], replay: bool) -> Result<String> {
+    let mut words = Vec::new(alloc);
+    words.push(String::from_str(alloc, "restore")?)?;
+    words.push(String::from_str(alloc, "--archive")?)?;
+    if replay {
+        words.push(String::from_str(alloc, "--oplogReplay")?)?;
+    }
+    let pieces = vec![in alloc; 4096]?;
+    let mut input = MemSource::new(archive.to_vec(alloc)?, pieces, Vec::new(alloc));
+    let mut output = sink(alloc, None)?;
+    let mut report = sink(alloc, None)?;
+    let status = tools(alloc, &words, &mut input, &mut output, &mut report);
+    let length = output.written().len();
+    let line = String::from_utf8_lossy(alloc, report.written())?;
+    let answer = format!(in alloc; "status {status}, {length} bytes: {line}")?;
+    Ok(String::from_str(alloc, answer.trim_end())?)
+}
+
+impl Calls {
+    pub fn new(alloc: Global) -> Result<Calls> {
+        Ok(Calls {
+            store: Store::new(alloc, 1000, None)?,
+            sink: sink(alloc, None)?,
+            dump: None,
+        })
+    }
+
+    // A command is checked, and then run: both answer the same.
+    fn command(&mut self, alloc: Global, text: &str) -> Result<String> {
+        let text = lines_of(alloc, text)?;
+        let Ok(schedule) = Schedule::read(alloc, text.as_bytes()) else {
+            bail!("no schedule");
+        };
+        let Some(line) = schedule.lines.as_slice().first() else {
+            bail!("no line");
+        };
+        let Line::Cmd(command) = &line.line else {
+            bail!("no command");
+        };
+        let checked = self.store.check(command);
+        let applied = self.store.apply(command);
+        if checked != applied {
+            return Ok(String::from_str(alloc, "two answers")?);
+        }
+        match applied {
+            Ok(entries) => Ok(format!(in alloc; "{entries}")?),
+            Err(StoreFault::Refused(refused)) => Ok(format!(in alloc; "{refused:?}")?),
+            Err(StoreFault::NoMemory) => bail!("no memory"),
+        }
+    }
+
+    fn start(&mut self, alloc: Global) -> Result<String> {
+        match Dump::start(alloc, &self.store, &mut self.sink) {
+            Ok(dump) => {
+                self.dump = Some(dump);
+                told(alloc, Ok(()))
+            }
+            Err(fault) => told(alloc, Err(fault)),
+        }
+    }
+
+    fn copy(&mut self, alloc: Global, text: &str) -> Result<String> {
+        let (name, count) = text.split_once(' ').unwrap_or((text, "1"));
+        let Some(ns) = NsName::split(alloc, name)? else {
+            bail!("no name: {name}");
+        };
+        let count = number(count)?;
+        let Some(dump) = &mut self.dump else {
+            bail!("no dump");
+        };
+        told(alloc, dump.copy(&self.store, &ns, count, &mut self.sink))
+    }
+
+    fn mark(&mut self, alloc: Global) -> Result<String> {
+        let Some(dump) = &mut self.dump else {
+            bail!("no dump");
+        };
+        told(alloc, dump.mark(&self.store))
+    }
+
+    fn tail(&mut self, alloc: Global, count: u32) -> Result<String> {
+        let Some(dump) = &mut self.dump else {
+            bail!("no dump");
+        };
+        told(alloc, dump.tail(&self.store, count, &mut self.sink))
+    }
+
+    fn finish(&mut self, alloc: Global) -> Result<String> {
+        let Some(dump) = &mut self.dump else {
+            bail!("no dump");
+        };
+        match dump.finish(&self.store, &mut self.sink) {
+            Ok(report) => {
+                let documents = report.documents;
+                let entries = report.entries;
+                Ok(format!(in alloc; "{documents} documents {entries} entries")?)
+            }
+            Err(fault) => told(alloc, Err(fault)),
+        }
+    }
+}
+
+impl Respondent for Calls {
+    fn answer(&mut self, alloc: Global, verb: &str, text: &str) -> Result<String> {
+        match verb {
+            "new" => {
+                let cap = text.parse::<usize>()?.max(1).min(1_000_000);
+                self.store = Store::new(alloc, cap, None)?;
+                self.sink = sink(alloc, None)?;
+                self.dump = None;
+                told(alloc, Ok(()))
+            }
+            "fail" => {
+                self.sink = sink(alloc, Some(text.parse::<u64>()?))?;
+                told(alloc, Ok(()))
+            }
+            "do" => self.command(alloc, text),
+            "recorded" => {
+                let recorded = self.store.recorded();
+                Ok(format!(in alloc; "{recorded}")?)
+            }
+            "start" => self.start(alloc),
+            "copy" => self.copy(alloc, text),
+            "mark" => self.mark(alloc),
+            "tail" => self.tail(alloc, number(text)?),
+            "finish" => self.finish(alloc),
+            "wrote" => {
+                let length = self.sink.written().len();
+                Ok(format!(in alloc; "{length}")?)
+            }
+            "restore" => restored(alloc, self.sink.written(), false),
+            "replay" => restored(alloc, self.sink.written(), true),
+            _ => bail!("no call: {verb}"),
+        }
+    }
+}
