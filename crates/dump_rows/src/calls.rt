@@ -96,6 +96,9 @@ impl Calls {
         let Line::Cmd(command) = &line.line else {
             bail!("no command");
         };
+        if self.store.recorded() >= 4_000_000_000 {
+            bail!("more entries than a store records");
+        }
         let checked = self.store.check(command);
         let applied = self.store.apply(command);
         if checked != applied {
