@@ -3,17 +3,19 @@
 //! - `row NAME`: a row begins, with an empty input.
 //! - `> TEXT`: the input has this line more; `+ TEXT`: this text, without a line end; `x HEX`: these bytes.
 //! - `cut N`: the input has its first N bytes alone.
-//! - `letters N`: the input has N letters x more.
+//! - `letters N`: the input has N letters x more; `drill N`: the text of the drill of N.
 //! - `pieces N`: the input comes in pieces of N bytes, 7 where nothing is said.
 //! - `fail END N`: the call of this number, from 0, of `input`, `output` or `report` fails.
 //! - `each END`: the call is made again and again, in each of which one call of this end more fails, until none is left.
 //! - `run WORDS`: the program is called with these words. Behind it stand `status N`, 0 where nothing is said, `< LINE` for each line of
-//!   the output, `= HEX` for its bytes or `bytes N` for their number, and `! LINE` for each line of the report.
+//!   the output, `= HEX` for its bytes or `bytes N` for their number, and `! LINE` for each line of the report, or `told N` for the number of
+//!   its bytes.
 //! - `pipe`: the output of the last call is the input of the next one; `back`: the input is again what it was before.
 //! - `again`: the next call must write what the last one wrote.
 use crate::call::{Answer, End, Failure, call};
 use crate::wanted::Wanted;
 use anyhow::bail;
+use schedule_text::drill;
 use std::alloc::{AllocError, Global};
 use std::io::Write;
 
@@ -154,6 +156,14 @@ impl Script {
                     self.input.push(b'x')?;
                 }
             }
+            "drill" => {
+                let rounds = text.parse::<u32>()?;
+                if rounds < 1 || rounds > 100_000 {
+                    bail!("no drill: {rounds}");
+                }
+                self.input
+                    .extend_from_slice(drill(alloc, rounds)?.as_slice())?;
+            }
             "each" => self.each = end_of(text),
             "fail" => {
                 let (name, call) = text.split_once(' ').unwrap_or((text, "0"));
@@ -189,6 +199,7 @@ impl Script {
             }
             "again" => self.wanted.output = self.last.to_vec(alloc)?,
             "status" => self.wanted.status = text.parse::<u8>()?,
+            "told" => self.wanted.told = Some(text.parse::<usize>()?),
             "bytes" => self.wanted.length = Some(text.parse::<usize>()?),
             "<" => put_line(&mut self.wanted.output, text)?,
             "=" => self

@@ -10,6 +10,8 @@ pub struct Wanted {
     pub report: Vec<u8>,
     /// How many bytes of output there must be, where these don't stand in the script.
     pub length: Option<usize>,
+    /// And how many of the report.
+    pub told: Option<usize>,
 }
 
 impl Wanted {
@@ -20,6 +22,7 @@ impl Wanted {
             output: Vec::new(alloc),
             report: Vec::new(alloc),
             length: None,
+            told: None,
         }
     }
 
@@ -30,10 +33,17 @@ impl Wanted {
         }
     }
 
+    fn has_report(&self, report: &[u8]) -> bool {
+        match self.told {
+            Some(length) => report.len() == length,
+            None => report == self.report.as_slice(),
+        }
+    }
+
     /// Whether a call answered this.
     pub fn is(&self, answer: &Answer) -> bool {
         answer.status == self.status
-            && answer.report == self.report
+            && self.has_report(&answer.report)
             && self.has_output(&answer.output)
     }
 
