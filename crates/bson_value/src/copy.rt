@@ -54,7 +54,7 @@ impl Value {
 fn copy_items(alloc: Global, items: &[Value]) -> Result<List<Value>, AllocError>
     ensures { IfOk result (λ list. list ≡ items.now) }
 {
-    let mut list = List::new(alloc);
+    let mut list = List::with_capacity(alloc, items.len())?;
     for item in items {
         list.push(item.copy(alloc)?)?;
     }
@@ -67,7 +67,7 @@ impl Fields<Value> {
     pub fn copy(&self, alloc: Global) -> Result<Doc, AllocError>
         ensures { IfOk result (λ doc. doc ≡ self.now) }
     {
-        let mut entries = Vec::new(alloc);
+        let mut entries = Vec::with_capacity(alloc, self.len())?;
         for entry in self.entries() {
             entries.push(copy_entry(alloc, entry)?)?;
         }

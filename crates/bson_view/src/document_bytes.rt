@@ -33,6 +33,14 @@ impl DocumentBytes {
         }
     }
 
+    /// Bytes that were checked, in their memory.
+    pub fn of_checked(bytes: Bytes) -> DocumentBytes
+        requires { first_fault 16793600 200 bytes ≡ None }
+        ensures { kept_bytes result ≡ bytes }
+    {
+        DocumentBytes { bytes }
+    }
+
     /// A copy of bytes that were checked.
     pub fn of(alloc: Global, bytes: &[u8]) -> Result<DocumentBytes, AllocError>
         requires { first_fault 16793600 200 bytes.now ≡ None }

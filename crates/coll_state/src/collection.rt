@@ -13,6 +13,7 @@ ghost use Rattle.std.specs.List.Sorted.{IsSearchInRange};
 
 use crate::documents::Documents;
 use crate::kept::Kept;
+use crate::key::Key;
 use bson_encode::cmp_key;
 use bson_value::{Bytes, Value};
 use containers::List as JList;
@@ -25,7 +26,7 @@ use std::marker::Model;
 /// The record number of a key.
 #[derive(Drop)]
 pub(crate) struct Numbered {
-    key: Bytes,
+    key: Key,
     pub(crate) no: u128,
 }
 
@@ -86,7 +87,7 @@ fn place_of(defs: &[Tree], name: &str) -> Result<usize, usize>
 }
 
 // How a key stands beside that of an `_id`.
-fn order_beside(key: &Bytes, id: &Value) -> Ordering
+fn order_beside(key: &Key, id: &Value) -> Ordering
     ensures { result ≡ key_cmp key.now (key_of id.now) }
 {
     match key.as_slice().split_first() {
@@ -212,7 +213,9 @@ impl Collection {
     fn number_of_key(&self, key: &Bytes) -> Option<u128>
         ensures { result ≡ option_map (λ r. r.no) (row_of self.now.table.rows key.now) }
     {
-        match self.numbers.find(|numbered| numbered.key.cmp(key)) {
+        match self
+            .numbers
+            .find(|numbered| numbered.key.as_slice().cmp(key.as_slice())) {
             Some(numbered) => Some(numbered.no),
             None => None,
         }
@@ -238,8 +241,9 @@ impl Collection {
         ensures room { self.old.room ≤ self.new.room + 1 }
     {
         let no = self.next;
+        let key = Key::of(key);
         self.numbers
-            .put(Numbered { key, no }, |a, b| a.key.cmp(&b.key));
+            .put(Numbered { key, no }, |a, b| a.key.as_slice().cmp(b.key.as_slice()));
         self.records.push(Record { no, document });
         self.next = no + 1;
     }

@@ -68,12 +68,9 @@ impl Kept {
         let bytes = encode(alloc, &doc)?;
         faultless_if_spelled();
         one_document();
-        match DocumentBytes::check(bytes) {
-            Ok(bytes) => Ok(Kept {
-                form: Form::Spelled(bytes),
-            }),
-            Err(_) => unreachable!(),
-        }
+        Ok(Kept {
+            form: Form::Spelled(DocumentBytes::of_checked(bytes)),
+        })
     }
 
     /// The document where it lies.

@@ -6,6 +6,7 @@ mod change;
 mod collection;
 mod documents;
 mod kept;
+mod key;
 mod laws;
 mod prepared;
 mod state;

@@ -33,7 +33,7 @@ impl Place {
     pub fn new(alloc: Global, first: Part) -> Result<Place, AllocError>
         ensures { IfOk result (λ p. p ≡ first ∷ []) }
     {
-        let mut parts = List::new(alloc);
+        let mut parts = List::with_capacity(alloc, 1)?;
         parts.push(first)?;
         Ok(Place { parts })
     }
@@ -86,7 +86,7 @@ impl Place {
 fn copy_parts(alloc: Global, parts: &[Part]) -> Result<List<Part>, AllocError>
     ensures { IfOk result (λ copies. copies ≡ parts.now) }
 {
-    let mut copies = List::new(alloc);
+    let mut copies = List::with_capacity(alloc, parts.len())?;
     for part in parts {
         copies.push(part.copy(alloc)?)?;
     }

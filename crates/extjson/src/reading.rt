@@ -58,7 +58,7 @@ fn value(alloc: Global, tree: &Tree) -> Result<Value, ExtFault>
 fn items(alloc: Global, trees: &[Tree]) -> Result<List<Value>, ExtFault>
     ensures { Gives (λ vs. vs) result (items_value (map value_of trees.now)) }
 {
-    let mut values = List::new(alloc);
+    let mut values = List::with_capacity(alloc, trees.len())?;
     for tree in trees {
         values.push(value(alloc, tree)?)?;
     }
@@ -106,7 +106,7 @@ fn fields(alloc: Global, entries: &[(JText, Tree)]) -> Result<Doc, ExtFault>
     requires { AreDistinct (names_of entries.now) }
     ensures { Gives (λ d. d) result (fields_value (parts_of entries.now)) }
 {
-    let mut fields = Vec::new(alloc);
+    let mut fields = Vec::with_capacity(alloc, entries.len())?;
     for entry in entries {
         let name = without_zero(alloc, entry.0.as_str())?;
         let value = value(alloc, &entry.1)?;

@@ -60,7 +60,7 @@ pub(crate) fn update_touches(alloc: Global, form: Form, o: &Doc) -> Result<List<
     ensures ok { IfOk result (λ ts. fields_touches form o.now ≡ Ok ts) }
     ensures err { IfErr result (λ e. Fails e (fields_touches form o.now)) }
 {
-    let mut touches = List::new(alloc);
+    let mut touches = List::with_capacity(alloc, 1)?;
     for (name, value) in o.entries() {
         match update_field(alloc, form, name.as_str(), value, &mut touches) {
             Ok(()) => {}

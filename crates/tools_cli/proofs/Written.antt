@@ -19,7 +19,9 @@ use Rattle.schedule_text.specs.declared.schedule.Schedule.{Schedule as Text}
 use Rattle.schedule_report.specs.Schedules.{schedule_in}
 use Rattle.schedule_bounds.specs.Laws.{ReadIsDumped}
 use Rattle.restore_filter.specs.Laws.{NamesStay}
-use Rattle.tools_cli.specs.Headline.{RestoresDump, ListsDump}
+use Rattle.dump_steps.proofs.DumpRuns.{lines_formed}
+use Rattle.whole_transactions.specs.Laws.{AtIsWhole}
+use Rattle.tools_cli.specs.Headline.{RestoresDump, ListsDump, ListsWholeTransactions}
 use Rattle.tools_cli.proofs.Replaying.{replays}
 
 -- a schedule that was read and whose dump is done is one that was dumped
@@ -52,3 +54,9 @@ call_writes law dumped stay words code i o r a text s order d zero =
     let answers : RestoreAnswers order a.status i o (turn r.before a.ran) = subst P d.means a.says in
     let R : Status → Type 0 = λ status. RestoreSays order status i o in
     done_writes law order i o (subst R done answers.says) (schedule_in s) (replays_dump dumped stay text s words order i d) d.given
+
+-- and the state of the source that it lists has each transaction whole, or not at all
+pub call_writes_whole : ListsSource → ReadIsDumped → NamesStay → AtIsWhole → (words : List (List ℕ)) (code : ℕ) (i o r : Turn) → Answers (meaning_of words) code i o r → ListsWholeTransactions words code i o
+call_writes_whole law dumped stay wholes words code i o r a text s order d zero earlier ts ws later committed =
+    let formed = lines_formed (schedule_in s).lines (dumped text s d.read d.done).given in
+    ((call_writes law dumped stay words code i o r a text s order d zero).0, wholes (schedule_in s) formed earlier ts ws later committed order.plan.limit)

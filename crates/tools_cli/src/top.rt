@@ -6,7 +6,7 @@ ghost use Rattle.tools_words.specs.Words.{meaning_of, texts_of};
 ghost use Rattle.tools_commands.specs.Ends.{turn};
 ghost use Rattle.tools_cli.specs.ShowAnswers.{Shown};
 ghost use Rattle.tools_cli.specs.Answers.{Says, Answers};
-ghost use Rattle.tools_cli.specs.Headline.{ListsDump, CompletesDump};
+ghost use Rattle.tools_cli.specs.Headline.{ListsDump, ListsWholeTransactions, CompletesDump};
 
 use crate::texts::{HELP, VERSION};
 use archive_length::archives_are_short;
@@ -19,6 +19,7 @@ use std::alloc::Global;
 use tool_io::{Fault, Sink, Source};
 use tools_commands::{Status, dump_source, list_archive, list_source, tell};
 use tools_words::{Order, WordsFault, read_words, rounds_are_few};
+use whole_transactions::at_is_whole;
 
 // Writes a text that the command shows.
 fn show<K: Sink>(text: &str, output: &mut K) -> Status
@@ -107,8 +108,8 @@ fn answer<S: Source, K: Sink, R: Sink>(
 }
 
 /// All that the program does: reads the input, writes the output, tells a line on the report where the status isn't 0, and
-/// answers the status. Where it restores the archive of a dump with status 0, the output is the listing of the source; and
-/// there the status is 0, or that of missing memory, as long as the input and the output don't fail.
+/// answers the status. Where it restores the archive of a dump with status 0, the output is the listing of the source, in
+/// which each transaction stands whole or not at all; and there the status is 0, or that of missing memory, as long as the input and the output don't fail.
 pub fn tools<S: Source, K: Sink, R: Sink>(
     alloc: Global,
     words: &[String],
@@ -123,6 +124,9 @@ pub fn tools<S: Source, K: Sink, R: Sink>(
     ensures lists { ListsDump (texts_of words.now) result
         (turn (S.end input.old) (S.end input.new))
         (turn (K.end output.old) (K.end output.new)) }
+    ensures transactions { ListsWholeTransactions (texts_of words.now) result
+        (turn (S.end input.old) (S.end input.new))
+        (turn (K.end output.old) (K.end output.new)) }
     ensures complete { CompletesDump (texts_of words.now) result
         (turn (S.end input.old) (S.end input.new))
         (turn (K.end output.old) (K.end output.new)) }
@@ -132,5 +136,6 @@ pub fn tools<S: Source, K: Sink, R: Sink>(
     read_is_dumped();
     archives_are_short();
     names_stay();
+    at_is_whole();
     answer(alloc, words, input, output, report)
 }

@@ -25,7 +25,7 @@ pub struct Draft {
 fn copy_parts(alloc: Global, parts: &[Part]) -> Result<List<Part>, AllocError>
     ensures { IfOk result (λ copies. copies ≡ parts.now) }
 {
-    let mut copies = List::new(alloc);
+    let mut copies = List::with_capacity(alloc, parts.len())?;
     for part in parts {
         copies.push(part.copy(alloc)?)?;
     }
