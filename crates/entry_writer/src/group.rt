@@ -85,17 +85,22 @@ fn put_front(out: &mut Vec<u8>, ts: Ts) -> Result<(), AllocError>
     put_own(out, "v", Value::Long(2))
 }
 
-/// The bytes of the document of an entry. They are written at once, and what the entry holds isn't copied before.
+/// Most entries have no more bytes.
+const USUAL_LEN: usize = 512;
+
+/// The bytes of the document of an entry, in memory of their own size. They are written at once, and what the entry holds
+/// isn't copied before.
 /// The time is that of the bytes, and of a delta in the second form also that of looking each touch up in a tree at each level of its place.
 pub fn write(alloc: Global, entry: &Entry) -> Result<Bytes, AllocError>
     ensures { IfOk result (λ bytes. bytes ≡ document_text (entry_fields entry.now)) }
 {
-    let mut out = Vec::new(alloc);
+    let mut out = Vec::with_capacity(alloc, USUAL_LEN)?;
     out.extend_from_slice(&[0, 0, 0, 0])?;
     put_front(&mut out, entry.ts)?;
     put_body(alloc, &mut out, entry)?;
     put_own(&mut out, "wall", wall(entry.ts.secs))?;
     close(&mut out, 4)?;
+    out.shrink_to_fit();
     Ok(Bytes::from_vec(out))
 }
 
@@ -104,7 +109,7 @@ pub fn write(alloc: Global, entry: &Entry) -> Result<Bytes, AllocError>
 pub fn write_delta(alloc: Global, form: Form, touches: &[Touch]) -> Result<Bytes, AllocError>
     ensures { IfOk result (λ bytes. bytes ≡ document_text (written form level_limit touches.now)) }
 {
-    let mut out = Vec::new(alloc);
+    let mut out = Vec::with_capacity(alloc, USUAL_LEN)?;
     out.extend_from_slice(&[0, 0, 0, 0])?;
     put_form(alloc, &mut out, form, touches)?;
     close(&mut out, 4)?;
