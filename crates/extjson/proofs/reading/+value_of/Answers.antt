@@ -10,7 +10,7 @@ use Rattle.extjson.proofs.reading.+value_of.Goals as goal
 
 pub fields-returns-in_err-name : goal.fields-returns-in_err-name
 fields-returns-in_err-name t c =
-    let p = err_from_is_err_and c.from_residual.result c.from_residual.ensures.1 in
+    let p = err_from_is_err_and c.from_residual-in_err-name.result c.from_residual-in_err-name.ensures.1 in
     rw (p.1, p.2) (name_fails c.args.entries.now c.loop-entry.entry-index c.entry-item.result c.loop-entry-test.true c.entry-item.is c.loop-entry.fields.items _ _ (rw c.as_str.ensures at c.in_err-name.ensures) c.loop-entry.invariant.read)
 
 pub fields-returns-in_err-value : goal.fields-returns-in_err-value
@@ -31,7 +31,7 @@ fields-returns t c = rw c.of_distinct.ensures (fields_end c.args.entries.now c.l
 
 pub items-returns-in_err-value : goal.items-returns-in_err-value
 items-returns-in_err-value t c =
-    let p = err_from_is_err_and c.from_residual.result c.from_residual.ensures.1 in
+    let p = err_from_is_err_and c.from_residual-in_err-value.result c.from_residual-in_err-value.ensures.1 in
     rw (p.1, p.2) (items_fail c.args.trees.now c.loop-tree.tree-index c.tree-item.result c.loop-tree-test.true c.tree-item.is c.loop-tree.values _ _ c.in_err-value.ensures c.loop-tree.invariant)
 
 pub items-loop-tree-preserved : goal.items-loop-tree-preserved
