@@ -1,6 +1,6 @@
 -- The sum of bytes is linear: what stands in several parts may be shifted part by part.
 use Rattle.std.proofs.Common.{◌≡◌, ℕ, zero, suc, ◌+◌, ◌-◌, ◌*◌, ◌/◌, ◌%◌, ◌^◌, ◌<◌, ◌≤◌, Bool, true, false, cond, List, [], ◌∷◌, ◌++◌, length, refl, sym, ap, ◌∙◌, arith, inl, inr, ne_eqb}
-use Rattle.std.proofs.Common.{drop, get_or, slice_index, Fits, w8, w64}
+use Rattle.std.proofs.Common.{take, drop, get_or, slice_index, Fits, w8, w64}
 use Rattle.std.specs.Int.{from_le_bytes}
 use Rattle.std.specs.Prelude.{bit_xor, ◌==◌, not, ◌⊎◌}
 use Rattle.std.specs.Int.Bits.{xor_zero_r, xor_self, xor_assoc}
@@ -9,6 +9,7 @@ use Rattle.std.proofs.lemmas.Nat.{xor_comm, xor_shr, mod-pow-add, pow_pos}
 use Rattle.std.proofs.Math.Nat.{mod-lt}
 use Rattle.std.proofs.lemmas.Nat.Bits.{bit_at_xor, bit_at_lowest, bit_at_cat_low, bit_at_cat_high, bit_at_above, bit_at-zero, same_from_bits, bit_at-lt}
 use Rattle.std.proofs.lemmas.Bool.{cases_lt}
+use Rattle.std.proofs.lemmas.List.{length-take-le, length-drop, take-append-drop}
 use Rattle.std.proofs.Math.Nat.{pow-suc, mul_assoc}
 use Rattle.archive_format.specs.Crc.{polynomial, shift, crc_step, crc_on}
 use Rattle.archive_blocks.specs.Shifts.{shifts}
@@ -172,14 +173,36 @@ after_both (x ∷ xs) ys s = after_both xs ys (crc_step s x)
 byte_more : (y j : ℕ) → y % 2 ^ (8 * (j + 1)) ≡ (y / 2 ^ (8 * j) % 256) * 2 ^ (8 * j) + y % 2 ^ (8 * j)
 byte_more y j = let k : 8 * (j + 1) ≡ 8 + 8 * j = omega arith in ap (λ (m : ℕ). y % 2 ^ m) k ∙ mod-pow-add y 8 (8 * j)
 
-pub bytes_step : (y j table sum : ℕ) → j < 8 → table ≡ shifts (8 * (7 - j + 1)) (y / 2 ^ (8 * j) % 256) → sum ≡ shifts 64 (y % 2 ^ (8 * j)) → bit_xor sum table ≡ shifts 64 (y % 2 ^ (8 * (j + 1)))
-bytes_step y j table sum l is before =
+-- with k bits behind the number and the bytes of it that stand behind this one
+pub byte_step : (k m y j table sum : ℕ) → 8 * j + m ≡ k → table ≡ shifts m (y / 2 ^ (8 * j) % 256) → sum ≡ shifts k (y % 2 ^ (8 * j)) → bit_xor sum table ≡ shifts k (y % 2 ^ (8 * (j + 1)))
+byte_step k m y j table sum e is before =
     let n = y / 2 ^ (8 * j) % 256 in
-    let k : 8 * j + 8 * (7 - j + 1) ≡ 64 = omega arith in
-    let moved : shifts 64 (n * 2 ^ (8 * j)) ≡ shifts (8 * (7 - j + 1)) n =
-    ap (λ (m : ℕ). shifts m (n * 2 ^ (8 * j))) (sym k) ∙ (shifts_more (8 * j) (8 * (7 - j + 1)) (n * 2 ^ (8 * j)) ∙ ap (shifts (8 * (7 - j + 1))) (shifts_out (8 * j) n)) in
-    ap (λ (x : ℕ). bit_xor x table) before ∙ (ap (λ (x : ℕ). bit_xor (shifts 64 (y % 2 ^ (8 * j))) x) (is ∙ sym moved)
-    ∙ (sym (shifts_xor 64 (y % 2 ^ (8 * j)) (n * 2 ^ (8 * j))) ∙ ap (shifts 64) (cat_xor n (8 * j) (y % 2 ^ (8 * j)) (mod-lt y (pow_pos (8 * j))) ∙ sym (byte_more y j))))
+    let moved : shifts k (n * 2 ^ (8 * j)) ≡ shifts m n =
+    ap (λ (i : ℕ). shifts i (n * 2 ^ (8 * j))) (sym e) ∙ (shifts_more (8 * j) m (n * 2 ^ (8 * j)) ∙ ap (shifts m) (shifts_out (8 * j) n)) in
+    ap (λ (x : ℕ). bit_xor x table) before ∙ (ap (λ (x : ℕ). bit_xor (shifts k (y % 2 ^ (8 * j))) x) (is ∙ sym moved)
+    ∙ (sym (shifts_xor k (y % 2 ^ (8 * j)) (n * 2 ^ (8 * j))) ∙ ap (shifts k) (cat_xor n (8 * j) (y % 2 ^ (8 * j)) (mod-lt y (pow_pos (8 * j))) ∙ sym (byte_more y j))))
+
+-- what the eight bytes of a number add, the lowest first, with so many bytes behind the number
+pub eight_bytes : (behind y a b c d e f g h : ℕ) → y < 2 ^ 64
+    → a ≡ shifts (8 * (behind + 7 + 1)) (y % 256)
+    → b ≡ shifts (8 * (behind + 6 + 1)) (y / 2 ^ 8 % 256)
+    → c ≡ shifts (8 * (behind + 5 + 1)) (y / 2 ^ 16 % 256)
+    → d ≡ shifts (8 * (behind + 4 + 1)) (y / 2 ^ 24 % 256)
+    → e ≡ shifts (8 * (behind + 3 + 1)) (y / 2 ^ 32 % 256)
+    → f ≡ shifts (8 * (behind + 2 + 1)) (y / 2 ^ 40 % 256)
+    → g ≡ shifts (8 * (behind + 1 + 1)) (y / 2 ^ 48 % 256)
+    → h ≡ shifts (8 * (behind + 1)) (y / 2 ^ 56 % 256)
+    → bit_xor (bit_xor (bit_xor (bit_xor (bit_xor (bit_xor (bit_xor a b) c) d) e) f) g) h ≡ shifts (8 * (behind + 8)) y
+eight_bytes behind y a b c d e f g h l first second third fourth fifth sixth seventh eighth =
+    let k = 8 * (behind + 8) in
+    let one : a ≡ shifts k (y % 2 ^ (8 * 1)) = first ∙ ap (λ (i : ℕ). shifts i (y % 256)) (let z : 8 * (behind + 7 + 1) ≡ 8 * (behind + 8) = omega arith in z) in
+    let two = byte_step k (8 * (behind + 6 + 1)) y 1 b a (omega arith) second one in
+    let three = byte_step k (8 * (behind + 5 + 1)) y 2 c _ (omega arith) third two in
+    let four = byte_step k (8 * (behind + 4 + 1)) y 3 d _ (omega arith) fourth three in
+    let five = byte_step k (8 * (behind + 3 + 1)) y 4 e _ (omega arith) fifth four in
+    let six = byte_step k (8 * (behind + 2 + 1)) y 5 f _ (omega arith) sixth five in
+    let seven = byte_step k (8 * (behind + 1 + 1)) y 6 g _ (omega arith) seventh six in
+    byte_step k (8 * (behind + 1)) y 7 h _ (omega arith) eighth seven ∙ ap (shifts k) (let z : y % 2 ^ 64 ≡ y = omega (arith, l) in z)
 
 -- a byte by its halves: the upper one has four bits fewer behind it
 pub byte_by_halves : (k b low high : ℕ) → low ≡ shifts (4 * (2 * k + 1 + 1)) (b % 16) → high ≡ shifts (4 * (2 * k + 1)) (b / 16) → bit_xor low high ≡ shifts (8 * (k + 1)) b
@@ -191,3 +214,40 @@ byte_by_halves k b low high l h =
     let moved : shifts (8 * (k + 1)) (b / 16 * 2 ^ 4) ≡ shifts n (b / 16) = ap (λ (m : ℕ). shifts m (b / 16 * 2 ^ 4)) (sym more) ∙ (shifts_more 4 n (b / 16 * 2 ^ 4) ∙ ap (shifts n) (shifts_out 4 (b / 16))) in
     ap (λ (x : ℕ). bit_xor x high) (l ∙ ap (λ (m : ℕ). shifts m (b % 16)) size) ∙ ap (λ (x : ℕ). bit_xor (shifts (8 * (k + 1)) (b % 16)) x) (h ∙ sym moved)
     ∙ sym (shifts_xor (8 * (k + 1)) (b % 16) (b / 16 * 2 ^ 4)) ∙ ap (shifts (8 * (k + 1))) whole
+
+-- one byte leaves
+pub byte_leaves : (n : ℕ) → bit_xor (n / 256) (shifts 8 (n % 256)) ≡ shifts 8 n
+byte_leaves n =
+    let whole : bit_xor (n % 256) (n / 256 * 2 ^ 8) ≡ n = cat_xor (n / 256) 8 (n % 256) (omega arith) ∙ omega arith in
+    xor_comm (n / 256) (shifts 8 (n % 256)) ∙ (ap (λ (x : ℕ). bit_xor (shifts 8 (n % 256)) x) (sym (shifts_out 8 (n / 256))) ∙ (sym (shifts_xor 8 (n % 256) (n / 256 * 2 ^ 8)) ∙ ap (shifts 8) whole))
+
+-- what leaves of a byte with eight more behind those that stood there
+pub eight_more : (k b : ℕ) → 8 ≤ k → shifts 64 (shifts (8 * (k - 8 + 1)) b) ≡ shifts (8 * (k + 1)) b
+eight_more k b l = sym (shifts_more (8 * (k - 8 + 1)) 64 b) ∙ ap (λ (i : ℕ). shifts i b) (let z : 8 * (k - 8 + 1) + 64 ≡ 8 * (k + 1) = omega (arith, l) in z)
+
+-- ---- sixteen bytes as two numbers
+
+two_at_once : (xs ys : List ℕ) (s : ℕ) → AreBytes xs → AreBytes ys → length xs ≡ 8 → length ys ≡ 8
+    → bit_xor (shifts 128 (bit_xor s (from_le_bytes w64 xs))) (shifts 64 (from_le_bytes w64 ys)) ≡ crc_on s (xs ++ ys)
+two_at_once xs ys s a b l m =
+    let n = bit_xor s (from_le_bytes w64 xs) in
+    let y = from_le_bytes w64 ys in
+    ap (λ (x : ℕ). bit_xor x (shifts 64 y)) (shifts_more 64 64 n) ∙ (sym (shifts_xor 64 (shifts 64 n) y)
+    ∙ (ap (λ (r : ℕ). shifts 64 (bit_xor r y)) (eight_at_once xs s a l) ∙ (eight_at_once ys (crc_on s xs) b m ∙ sym (after_both xs ys s))))
+
+front_bytes : (k : ℕ) (xs : List ℕ) → AreBytes xs → AreBytes (take k xs)
+front_bytes zero xs a = tt
+front_bytes (suc k) [] a = tt
+front_bytes (suc k) (x ∷ xs) a = (a.0, front_bytes k xs a.1)
+
+back_bytes : (k : ℕ) (xs : List ℕ) → AreBytes xs → AreBytes (drop k xs)
+back_bytes zero xs a = a
+back_bytes (suc k) [] a = tt
+back_bytes (suc k) (x ∷ xs) a = back_bytes k xs a.1
+
+pub sixteen_at_once : (xs : List ℕ) (s : ℕ) → AreBytes xs → length xs ≡ 16
+    → bit_xor (shifts 64 (from_le_bytes w64 (drop 8 xs))) (shifts 128 (bit_xor s (from_le_bytes w64 (take 8 xs)))) ≡ crc_on s xs
+sixteen_at_once xs s a l =
+    xor_comm (shifts 64 (from_le_bytes w64 (drop 8 xs))) (shifts 128 (bit_xor s (from_le_bytes w64 (take 8 xs))))
+    ∙ two_at_once (take 8 xs) (drop 8 xs) s (front_bytes 8 xs a) (back_bytes 8 xs a) (length-take-le 8 xs (omega (arith, l))) (omega (arith, length-drop 8 xs, l))
+    ∙ ap (crc_on s) (take-append-drop 8 xs)

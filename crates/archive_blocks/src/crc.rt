@@ -1,7 +1,8 @@
 //! The sum that ends a namespace's documents: CRC-64 with the reflected ECMA polynomial.
-ghost use Rattle.std.specs.Prelude.{◌≡◌, ◌+◌, ◌*◌, ◌<◌, ◌≤◌, ◌++◌, ◌^◌, length};
+ghost use Rattle.std.specs.Prelude.{◌≡◌, ◌+◌, ◌*◌, ◌%◌, ◌<◌, ◌≤◌, ◌++◌, ◌^◌, length};
 ghost use Rattle.archive_format.specs.Crc.{crc_step, crc_start, crc_on, crc_end};
 ghost use Rattle.archive_blocks.specs.Shifts.{shifts, IsFilled};
+ghost use Rattle.std.specs.Int.{from_le_bytes, w64};
 
 use std::alloc::{AllocError, Global};
 use std::marker::Model;
@@ -311,48 +312,86 @@ fn leave(number: u64) -> u64
     sum
 }
 
-// What a whole byte adds to the sum, with so many whole bytes behind it.
-fn whole_byte(behind: usize, byte: u8) -> u64
+// What a byte adds to the sum, with so many bytes of eight behind it.
+fn byte_of_eight(behind: usize, byte: u8) -> u64
     requires { behind < 8 }
     ensures { result ≡ shifts (8 * (behind + 1)) byte }
 {
     HALVES[2 * behind + 1][(byte % 16) as usize] ^ HALVES[2 * behind][(byte / 16) as usize]
 }
 
-/// What each byte adds to a sum, by how many bytes of eight stand behind it. With it a sum takes half the time.
+// What a byte adds to the sum, with so many bytes of sixteen behind it.
+fn whole_byte(behind: usize, byte: u8) -> u64
+    requires { behind < 16 }
+    ensures { result ≡ shifts (8 * (behind + 1)) byte }
+{
+    if behind < 8 {
+        byte_of_eight(behind, byte)
+    } else {
+        leave(byte_of_eight(behind - 8, byte))
+    }
+}
+
+// The number that eight bytes write, the lowest first.
+fn number(bytes: &[u8]) -> u64
+    requires { length bytes.now ≡ 8 }
+    ensures { result ≡ from_le_bytes w64 bytes.now }
+{
+    let mut eight = [0; 8];
+    eight.copy_from_slice(bytes);
+    u64::from_le_bytes(eight)
+}
+
+/// What each byte adds to a sum, by how many bytes of sixteen stand behind it. With it a sum takes a third of the time.
 #[derive(Drop)]
 pub struct CrcTable {
     rows: Vec<u64>,
-    ghost filled: { IsFilled 2048 rows.items },
+    ghost filled: { IsFilled 4096 rows.items },
 }
 
 impl CrcTable {
-    /// Makes the table, of 16 KiB.
+    /// Makes the table, of 32 KiB.
     pub fn new(alloc: Global) -> Result<CrcTable, AllocError> {
-        let mut rows = Vec::with_capacity(alloc, 2048)?;
-        'rows: for i in 0..2048 {
+        let mut rows = Vec::with_capacity(alloc, 4096)?;
+        'rows: for i in 0..4096 {
             rows.push(whole_byte(i / 256, (i % 256) as u8))?;
         }
         Ok(CrcTable { rows })
     }
 
-    fn row(&self, behind: usize, byte: u8) -> u64
-        requires { behind < 8 }
-        ensures { result ≡ shifts (8 * (behind + 1)) byte }
+    // What the lowest byte of this number adds to the sum, with so many bytes behind it.
+    #[inline(always)]
+    fn row(&self, behind: usize, number: u64) -> u64
+        requires { behind < 16 }
+        ensures { result ≡ shifts (8 * (behind + 1)) (number % 256) }
     {
-        self.rows[256 * behind + byte as usize]
+        self.rows[256 * behind + (number % 256) as usize]
     }
 
-    // The register after all 64 bits of this number have left.
-    fn leave(&self, number: u64) -> u64
-        ensures { result ≡ shifts 64 number }
+    // The register after all 64 bits of this number have left, and so many bytes behind them.
+    #[inline(always)]
+    fn leave(&self, behind: usize, number: u64) -> u64
+        requires { behind ≤ 8 }
+        ensures { result ≡ shifts (8 * (behind + 8)) number }
     {
-        let mut sum = 0;
-        'bytes: for j in 0..8 {
-            let byte = (number >> (8 * j)) % 256;
-            sum ^= self.row(7 - j, byte as u8);
-        }
-        sum
+        self.row(behind + 7, number)
+            ^ self.row(behind + 6, number >> 8)
+            ^ self.row(behind + 5, number >> 16)
+            ^ self.row(behind + 4, number >> 24)
+            ^ self.row(behind + 3, number >> 32)
+            ^ self.row(behind + 2, number >> 40)
+            ^ self.row(behind + 1, number >> 48)
+            ^ self.row(behind, number >> 56)
+    }
+
+    // The register after sixteen bytes more. What needs no sum stands first, so that it does not wait for the step before.
+    #[inline(always)]
+    fn add_sixteen(&self, sum: u64, bytes: &[u8]) -> u64
+        requires { length bytes.now ≡ 16 }
+        ensures { result ≡ crc_on sum bytes.now }
+    {
+        let last = self.leave(0, number(&bytes[8..]));
+        last ^ self.leave(8, sum ^ number(&bytes[..8]))
     }
 
     // The register after eight bytes more.
@@ -360,9 +399,37 @@ impl CrcTable {
         requires { length bytes.now ≡ 8 }
         ensures { result ≡ crc_on sum bytes.now }
     {
-        let mut eight = [0; 8];
-        eight.copy_from_slice(bytes);
-        self.leave(sum ^ u64::from_le_bytes(eight))
+        self.leave(0, sum ^ number(bytes))
+    }
+
+    // The register after one byte more.
+    fn add_byte(&self, sum: u64, byte: u8) -> u64
+        ensures { result ≡ crc_step sum byte }
+    {
+        let number = sum ^ u64::from(byte);
+        (number >> 8) ^ self.row(0, number)
+    }
+
+    // The register after these bytes, one by one.
+    fn add_bytes(&self, sum: u64, bytes: &[u8]) -> u64
+        ensures { result ≡ crc_on sum bytes.now }
+    {
+        let mut left = sum;
+        'bytes: for byte in bytes {
+            left = self.add_byte(left, *byte);
+        }
+        left
+    }
+
+    // The register after these bytes, of which eight at most are taken at once.
+    fn add_rest(&self, sum: u64, bytes: &[u8]) -> u64
+        ensures { result ≡ crc_on sum bytes.now }
+    {
+        if bytes.len() < 8 {
+            self.add_bytes(sum, bytes)
+        } else {
+            self.add_bytes(self.add_eight(sum, &bytes[..8]), &bytes[8..])
+        }
     }
 }
 
@@ -385,9 +452,7 @@ fn add_eight(sum: u64, bytes: &[u8]) -> u64
     requires { length bytes.now ≡ 8 }
     ensures { result ≡ crc_on sum bytes.now }
 {
-    let mut eight = [0; 8];
-    eight.copy_from_slice(bytes);
-    leave(sum ^ u64::from_le_bytes(eight))
+    leave(sum ^ number(bytes))
 }
 
 /// The sum of bytes, CRC-64 with the reflected ECMA polynomial (that of xz). Contracts see it as its
@@ -427,18 +492,17 @@ impl Crc {
         }
     }
 
-    /// The same by a table.
+    /// The same by a table, sixteen bytes in a step.
     pub fn add_by(&mut self, table: &CrcTable, bytes: &[u8])
         ensures { self.new ≡ crc_on self.old bytes.now }
     {
+        let mut sum = self.left;
         let mut rest = bytes;
-        'eights: while rest.len() >= 8 {
-            self.left = table.add_eight(self.left, &rest[..8]);
-            rest = &rest[8..];
+        'sixteens: while rest.len() >= 16 {
+            sum = table.add_sixteen(sum, &rest[..16]);
+            rest = &rest[16..];
         }
-        'bytes: for byte in rest {
-            self.left = add_byte(self.left, *byte);
-        }
+        self.left = table.add_rest(sum, rest);
     }
 
     /// The sum of all bytes so far.

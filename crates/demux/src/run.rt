@@ -145,7 +145,7 @@ pub struct Demux {
 }
 
 impl Demux {
-    /// Reserves the whole window, 16,793,600 bytes, and makes the table of checksums, 16 KiB. Nothing more is taken for
+    /// Reserves the whole window, 16,793,600 bytes, and makes the table of checksums, 32 KiB. Nothing more is taken for
     /// reading, and of the window no more is written than documents need.
     pub fn new(alloc: Global) -> Result<Demux, AllocError> {
         Ok(Demux {

@@ -1,10 +1,8 @@
 use Rattle.std.proofs.Common.{ap, ◌∙◌, ℕ}
 use Rattle.std.specs.Prelude.{bit_xor}
-use Rattle.std.specs.Int.{from_le_bytes, w64}
 use Rattle.archive_blocks.specs.Shifts.{shifts}
 use Rattle.archive_blocks.proofs.Linear.{eight_at_once, are_bytes}
 use Rattle.archive_blocks.proofs.crc.CrcTable.add_eight.Goals as goal
 
 pub returns : goal.returns
-returns c =
-    c.leave.ensures ∙ (ap (λ (n : ℕ). shifts 64 (bit_xor c.args.sum n)) (c.from_le_bytes.ensures ∙ ap (from_le_bytes w64) c.copy_from_slice.ensures.after) ∙ eight_at_once c.args.bytes.now c.args.sum (are_bytes _ c.type_inv.bytes) c.requires)
+returns c = c.leave.ensures ∙ (ap (λ (n : ℕ). shifts 64 (bit_xor c.args.sum n)) c.number.ensures ∙ eight_at_once c.args.bytes.now c.args.sum (are_bytes _ c.type_inv.bytes) c.requires)

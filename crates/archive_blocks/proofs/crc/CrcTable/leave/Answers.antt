@@ -1,8 +1,6 @@
-use Rattle.archive_blocks.proofs.Linear.{no_bits, bytes_step}
+use Rattle.archive_blocks.proofs.Linear.{eight_bytes}
 use Rattle.archive_blocks.proofs.crc.CrcTable.leave.Goals as goal
 
-pub bytes-init : goal.bytes-init
-bytes-init c = no_bits c.args.number
-
-pub bytes-preserved : goal.bytes-preserved
-bytes-preserved c = bytes_step c.args.number c.bytes.j _ _ c.bytes-test.true c.row-sum.ensures c.bytes.invariant
+pub returns : goal.returns
+returns c =
+    eight_bytes c.args.behind c.args.number _ _ _ _ _ _ _ _ c.ranges.number.fits c.row.ensures c.row-2.ensures c.row-3.ensures c.row-4.ensures c.row-5.ensures c.row-6.ensures c.row-7.ensures c.row-8.ensures
