@@ -215,7 +215,8 @@ impl Collection {
     {
         match self
             .numbers
-            .find(|numbered| numbered.key.as_slice().cmp(key.as_slice())) {
+            .find(|numbered| numbered.key.as_slice().cmp(key.as_slice()))
+        {
             Some(numbered) => Some(numbered.no),
             None => None,
         }
@@ -242,8 +243,10 @@ impl Collection {
     {
         let no = self.next;
         let key = Key::of(key);
-        self.numbers
-            .put(Numbered { key, no }, |a, b| a.key.as_slice().cmp(b.key.as_slice()));
+        self.numbers.put(
+            Numbered { key, no },
+            |a, b| a.key.as_slice().cmp(b.key.as_slice()),
+        );
         self.records.push(Record { no, document });
         self.next = no + 1;
     }
