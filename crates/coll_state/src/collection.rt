@@ -13,7 +13,6 @@ ghost use Rattle.std.specs.List.Sorted.{IsSearchInRange};
 
 use crate::documents::Documents;
 use crate::kept::Kept;
-use crate::key::Key;
 use bson_encode::cmp_key;
 use bson_value::{Bytes, Value};
 use containers::List as JList;
@@ -26,7 +25,7 @@ use std::marker::Model;
 /// The record number of a key.
 #[derive(Drop)]
 pub(crate) struct Numbered {
-    key: Key,
+    key: Bytes,
     pub(crate) no: u128,
 }
 
@@ -87,7 +86,7 @@ fn place_of(defs: &[Tree], name: &str) -> Result<usize, usize>
 }
 
 // How a key stands beside that of an `_id`.
-fn order_beside(key: &Key, id: &Value) -> Ordering
+fn order_beside(key: &Bytes, id: &Value) -> Ordering
     ensures { result ≡ key_cmp key.now (key_of id.now) }
 {
     match key.as_slice().split_first() {
@@ -213,10 +212,7 @@ impl Collection {
     fn number_of_key(&self, key: &Bytes) -> Option<u128>
         ensures { result ≡ option_map (λ r. r.no) (row_of self.now.table.rows key.now) }
     {
-        match self
-            .numbers
-            .find(|numbered| numbered.key.as_slice().cmp(key.as_slice()))
-        {
+        match self.numbers.find(|numbered| numbered.key.cmp(key)) {
             Some(numbered) => Some(numbered.no),
             None => None,
         }
@@ -242,11 +238,8 @@ impl Collection {
         ensures room { self.old.room ≤ self.new.room + 1 }
     {
         let no = self.next;
-        let key = Key::of(key);
-        self.numbers.put(
-            Numbered { key, no },
-            |a, b| a.key.as_slice().cmp(b.key.as_slice()),
-        );
+        self.numbers
+            .put(Numbered { key, no }, |a, b| a.key.cmp(&b.key));
         self.records.push(Record { no, document });
         self.next = no + 1;
     }

@@ -6,7 +6,6 @@ mod change;
 mod collection;
 mod documents;
 mod kept;
-mod key;
 mod laws;
 mod prepared;
 mod state;
