@@ -17,4 +17,4 @@ mod values;
 
 pub use ops::Ops;
 pub use update_model::{ArrayEnd, Number, Operator, OperatorName, OpsFault, UpdateFault, Updated};
-pub use updating::{update, update_owned};
+pub use updating::update;

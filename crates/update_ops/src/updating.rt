@@ -54,14 +54,14 @@ fn finish(alloc: Global, draft: Draft) -> Result<Updated, UpdateFault>
 /// first refusal. The touches are those of places that no other touch stands above, each once, in order of
 /// their first making, with what stands there after the update.
 ///
-/// The document is changed where it stands. An operator looks its path up in the document, from its front, and
-/// takes the time of that and of what it changes; `$addToSet` compares each of its values with each element.
-pub fn update_owned(alloc: Global, doc: Doc, ops: &Ops) -> Result<Updated, UpdateFault>
-    ensures ok { IfOk result (λ u. updated ops.now doc ≡ Ok u) }
-    ensures fault { IfErr result (λ e. IsRefusal e (updated ops.now doc)) }
+/// The document is copied once. An operator looks its path up in the document, from its front, and takes
+/// the time of that and of what it changes; `$addToSet` compares each of its values with each element.
+pub fn update(alloc: Global, doc: &Doc, ops: &Ops) -> Result<Updated, UpdateFault>
+    ensures ok { IfOk result (λ u. updated ops.now doc.now ≡ Ok u) }
+    ensures fault { IfErr result (λ e. IsRefusal e (updated ops.now doc.now)) }
 {
     let mut draft = Draft {
-        doc,
+        doc: doc.copy(alloc)?,
         marks: List::new(alloc),
         is_large: false,
     };
@@ -69,12 +69,4 @@ pub fn update_owned(alloc: Global, doc: Doc, ops: &Ops) -> Result<Updated, Updat
         draft.apply(alloc, operator)?;
     }
     finish(alloc, draft)
-}
-
-/// The same of a copy of the document.
-pub fn update(alloc: Global, doc: &Doc, ops: &Ops) -> Result<Updated, UpdateFault>
-    ensures ok { IfOk result (λ u. updated ops.now doc.now ≡ Ok u) }
-    ensures fault { IfErr result (λ e. IsRefusal e (updated ops.now doc.now)) }
-{
-    update_owned(alloc, doc.copy(alloc)?, ops)
 }

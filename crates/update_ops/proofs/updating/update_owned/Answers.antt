@@ -20,7 +20,7 @@ next os i o l e = drop-cons os i o l ∙ ap (λ (x : Operator). x ∷ drop (suc 
 
 pub returns-in_err-apply-clause-fault : goal.returns-in_err-apply-clause-fault
 returns-in_err-apply-clause-fault c =
-    let is : c.from_residual-in_err-apply.result ≡ Err c.in_err-apply.field-0.0 = search rules in
+    let is : c.from_residual.result ≡ Err c.in_err-apply.field-0.0 = search rules in
     let os = c.as_slice-operator-items.result.now in
     let i = c.loop-operator.operator-index in
     let o = c.operator-item.result in

@@ -3,4 +3,4 @@ use Rattle.update_ops.specs.Ends.{IsLeft}
 use Rattle.update_ops.proofs.updating.update_owned.Given as goal
 
 abbrev pub invariant-loop-operator : goal.invariant-loop-operator
-invariant-loop-operator l = IsLeft l.operator-items (drop l.operator-index l.operator-items) l.doc l.draft
+invariant-loop-operator l = IsLeft l.operator-items (drop l.operator-index l.operator-items) l.fn.doc l.draft
