@@ -100,8 +100,8 @@ pub fn write(alloc: Global, entry: &Entry) -> Result<Bytes, AllocError>
     put_body(alloc, &mut out, entry)?;
     put_own(&mut out, "wall", wall(entry.ts.secs))?;
     close(&mut out, 4)?;
-    out.shrink_to_fit();
-    Ok(Bytes::from_vec(out))
+    let bytes = Bytes::of(alloc, out.as_slice())?;
+    Ok(bytes)
 }
 
 /// The bytes of a delta in this form: the document that an update's entry has in its field `o`.

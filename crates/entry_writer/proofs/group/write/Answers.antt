@@ -7,7 +7,7 @@ use Rattle.entry_writer.proofs.group.write.Goals as goal
 
 pub returns : goal.returns
 returns c =
-    c.from_vec.ensures ∙ c.shrink_to_fit.ensures.items
+    c.in_ok-bytes.ensures ∙ c.as_slice.ensures.value
     ∙ entry_put c.args.entry.now c.extend_from_slice.new.self.items c.put_front.new.out.items c.put_body.new.out.items c.put_own.new.out.items c.close.new.out.items
     (c.in_ok-extend_from_slice.ensures.items ∙ ap (λ (l : List ℕ). l ++ (0 ∷ (0 ∷ (0 ∷ (0 ∷ []))))) c.in_ok-out.ensures.items)
     c.in_ok-put_front.ensures c.in_ok-put_body.ensures
