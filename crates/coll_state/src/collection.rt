@@ -1,5 +1,5 @@
 //! A collection: its options, its index definitions, and its documents in record order.
-ghost use Rattle.std.specs.Prelude.{◌≡◌, ◌+◌, ◌<◌, ◌≤◌, ◌^◌, [], OnOk, OnErr, option_map, is_some, Some, None, MatchResult, ℕ, take, length, map as each};
+ghost use Rattle.std.specs.Prelude.{◌≡◌, ◌+◌, ◌<◌, ◌≤◌, ◌^◌, [], ◌∷◌, IfSome, OnOk, OnErr, option_map, is_some, Some, None, MatchResult, ℕ, take, length, map as each};
 ghost use Rattle.std.specs.Option.{option_copied};
 ghost use Rattle.std.specs.FinMap as map;
 ghost use Rattle.bson_encode.specs.Key.{key_of};
@@ -13,9 +13,9 @@ ghost use Rattle.std.specs.List.Sorted.{IsSearchInRange};
 
 use crate::documents::Documents;
 use crate::kept::Kept;
-use bson_encode::cmp_key;
-use bson_value::{Bytes, Value};
-use containers::List as JList;
+use bson_encode::{cmp_key, type_of};
+use bson_value::Value;
+use containers::{List as JList, SmallBytes};
 use json_tree::Tree;
 use sorted_list::{SortedList, Walk};
 use std::alloc::{AllocError, Global};
@@ -25,7 +25,7 @@ use std::marker::Model;
 /// The record number of a key.
 #[derive(Drop)]
 pub(crate) struct Numbered {
-    key: Bytes,
+    key: SmallBytes,
     pub(crate) no: u128,
 }
 
@@ -86,12 +86,36 @@ fn place_of(defs: &[Tree], name: &str) -> Result<usize, usize>
 }
 
 // How a key stands beside that of an `_id`.
-fn order_beside(key: &Bytes, id: &Value) -> Ordering
+fn order_beside(key: &SmallBytes, id: &Value) -> Ordering
     ensures { result ≡ key_cmp key.now (key_of id.now) }
 {
     match key.as_slice().split_first() {
         Some((tag, rest)) => cmp_key(id, *tag, rest).reverse(),
         None => Ordering::Less,
+    }
+}
+
+fn tagged(tag: u8, bytes: &[u8]) -> SmallBytes
+    requires { length bytes.now ≤ 12 }
+    ensures { result ≡ tag ∷ bytes.now }
+{
+    let mut key = [0; 13];
+    key[0] = tag;
+    key[1..bytes.len() + 1].copy_from_slice(bytes);
+    SmallBytes::inline(&key[..bytes.len() + 1])
+}
+
+// The key of an `_id` of a number or an identifier. It takes no memory.
+fn short_key(id: &Value) -> Option<SmallBytes>
+    ensures { IfSome result (λ key. key ≡ key_of id.now) }
+{
+    let tag = type_of(id);
+    match id {
+        Value::Int(n) => Some(tagged(tag, &n.to_le_bytes())),
+        Value::Long(n) => Some(tagged(tag, &n.to_le_bytes())),
+        Value::Double(bytes) => Some(tagged(tag, bytes)),
+        Value::Oid(bytes) => Some(tagged(tag, bytes)),
+        _ => None,
     }
 }
 
@@ -120,6 +144,9 @@ impl Collection {
     fn number(&self, id: &Value) -> Option<u128>
         ensures { result ≡ option_map (λ r. r.no) (row_of self.now.table.rows (key_of id.now)) }
     {
+        if let Some(key) = short_key(id) {
+            return self.number_of_key(&key);
+        }
         match self
             .numbers
             .find(|numbered| order_beside(&numbered.key, id))
@@ -209,7 +236,7 @@ impl Collection {
         self.records.reserve(more)
     }
 
-    fn number_of_key(&self, key: &Bytes) -> Option<u128>
+    fn number_of_key(&self, key: &SmallBytes) -> Option<u128>
         ensures { result ≡ option_map (λ r. r.no) (row_of self.now.table.rows key.now) }
     {
         match self.numbers.find(|numbered| numbered.key.cmp(key)) {
@@ -229,7 +256,7 @@ impl Collection {
     }
 
     // The document behind all others.
-    fn add(&mut self, key: Bytes, document: Kept)
+    fn add(&mut self, key: SmallBytes, document: Kept)
         requires key { key ≡ key_in (id_of document) }
         requires absent { row_of self.old.table.rows key ≡ None }
         requires room { 1 ≤ self.old.room }
@@ -245,7 +272,7 @@ impl Collection {
     }
 
     /// The document in the place of the one of its key, or behind all others.
-    pub(crate) fn put(&mut self, key: Bytes, document: Kept)
+    pub(crate) fn put(&mut self, key: SmallBytes, document: Kept)
         requires key { key ≡ key_in (id_of document) }
         requires room { 1 ≤ self.old.room }
         requires number { self.old.table.next + 1 < 2 ^ 128 }
@@ -259,7 +286,7 @@ impl Collection {
     }
 
     /// The same, with room made for it.
-    pub(crate) fn put_one(&mut self, key: Bytes, document: Kept) -> Result<(), AllocError>
+    pub(crate) fn put_one(&mut self, key: SmallBytes, document: Kept) -> Result<(), AllocError>
         requires key { key ≡ key_in (id_of document) }
         requires number { self.old.table.next + 1 < 2 ^ 128 }
         ensures ok { OnOk result (self.new.table ≡ put_table key document self.old.table) }

@@ -4,14 +4,15 @@ ghost use Rattle.bson_encode.specs.Key.{key_of};
 ghost use Rattle.coll_state.specs.ChangeAll.{HasKey};
 
 use crate::kept::Kept;
-use bson_value::{Bytes, NsName, Value};
+use bson_value::{NsName, Value};
+use containers::SmallBytes;
 
 /// A change that needs no more memory but room in its collection.
 #[derive(Drop)]
 pub(crate) struct Prepared {
     pub(crate) ns: NsName,
     pub(crate) id: Value,
-    pub(crate) key: Bytes,
+    pub(crate) key: SmallBytes,
     pub(crate) document: Option<Kept>,
     ghost keyed: { key ≡ key_of id },
     ghost own: { HasKey key document },

@@ -21,9 +21,9 @@ use crate::tables::{self, Tables};
 use crate::walks::{After, Namespaces};
 use bson_encode::put_key;
 use bson_spelling::put_id_key;
-use bson_value::{Bytes, Doc, List, NsName, Value};
+use bson_value::{Doc, List, NsName, Value};
 use bson_view::{DocumentBytes, Held};
-use containers::List as JList;
+use containers::{List as JList, SmallBytes};
 use json_tree::{Fields, Tree};
 use sorted_list::Walk;
 use std::alloc::{AllocError, Global};
@@ -54,8 +54,11 @@ impl Model for State {
     ghost invariant = { λ s. AreSound (record { tables = tables_in s.tables; count = s.count }) };
 }
 
+// Most keys are shorter.
+const USUAL_LEN: usize = 32;
+
 // The key of a document's `_id`.
-fn key_in(alloc: Global, doc: &Doc) -> Result<Bytes, AllocError>
+fn key_in(alloc: Global, doc: &Doc) -> Result<SmallBytes, AllocError>
     requires { is_some (id_of doc.now) ≡ true }
     ensures { IfOk result (λ key. key ≡ key_in (id_of doc.now)) }
 {
@@ -66,24 +69,24 @@ fn key_in(alloc: Global, doc: &Doc) -> Result<Bytes, AllocError>
 }
 
 // The key of an `_id`.
-pub(crate) fn key_of(alloc: Global, id: &Value) -> Result<Bytes, AllocError>
+pub(crate) fn key_of(alloc: Global, id: &Value) -> Result<SmallBytes, AllocError>
     ensures { IfOk result (λ key. key ≡ key_of id.now) }
 {
-    let mut key = Vec::new(alloc);
+    let mut key = Vec::with_capacity(alloc, USUAL_LEN)?;
     put_key(&mut key, id)?;
-    Ok(Bytes::from_vec(key))
+    SmallBytes::of(alloc, key.as_slice())
 }
 
 // The key of the `_id` of the document that the bytes spell.
-fn key_in_bytes(alloc: Global, bytes: &DocumentBytes) -> Result<Bytes, AllocError>
+fn key_in_bytes(alloc: Global, bytes: &DocumentBytes) -> Result<SmallBytes, AllocError>
     requires { is_some (id_of (kept_document bytes.now)) ≡ true }
     ensures { IfOk result (λ key. key ≡ key_in (id_of (kept_document bytes.now))) }
 {
     match bytes.view().field("_id") {
         Some(id) => {
-            let mut key = Vec::new(alloc);
+            let mut key = Vec::with_capacity(alloc, USUAL_LEN)?;
             put_id_key(alloc, &mut key, &id)?;
-            Ok(Bytes::from_vec(key))
+            SmallBytes::of(alloc, key.as_slice())
         }
         None => unreachable!(),
     }
@@ -211,7 +214,7 @@ impl State {
         &mut self,
         alloc: Global,
         ns: &NsName,
-        key: Bytes,
+        key: SmallBytes,
         document: Kept,
     ) -> Result<(), AllocError>
         requires key { key ≡ key_in (id_of document) }
@@ -241,7 +244,7 @@ impl State {
         &mut self,
         alloc: Global,
         ns: &NsName,
-        key: Bytes,
+        key: SmallBytes,
         document: Kept,
     ) -> Result<(), AllocError>
         requires key { key ≡ key_in (id_of document) }

@@ -11,8 +11,8 @@ ghost use Rattle.coll_state.specs.Tables.{tables_in, stock_at};
 
 use crate::collection::Collection;
 use crate::kept::Kept;
-use bson_value::{Bytes, NsName, Value};
-use containers::List as JList;
+use bson_value::{NsName, Value};
+use containers::{List as JList, SmallBytes};
 use json_tree::{Fields, Tree};
 use std::alloc::{AllocError, Global};
 use std::collections::BTreeMap;
@@ -24,7 +24,7 @@ pub(crate) type Tables = BTreeMap<NsName, Collection>;
 fn made_with(
     alloc: Global,
     incarnation: u128,
-    key: Bytes,
+    key: SmallBytes,
     document: Kept,
 ) -> Result<Collection, AllocError>
     requires { key ≡ key_in (id_of document) }
@@ -59,7 +59,7 @@ pub(crate) fn put(
     alloc: Global,
     ns: &NsName,
     incarnation: u128,
-    key: Bytes,
+    key: SmallBytes,
     document: Kept,
 ) -> Result<(), AllocError>
     requires key { key ≡ key_in (id_of document) }

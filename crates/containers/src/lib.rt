@@ -1,9 +1,13 @@
 //! Texts, bytes and lists, which contracts see as lists.
 #![tactic(auto)]
 
+mod inline;
 mod list;
 mod order;
+mod small_bytes;
+mod small_string;
 mod text;
 
 pub use list::List;
+pub use small_bytes::SmallBytes;
 pub use text::{Bytes, CText, Text};

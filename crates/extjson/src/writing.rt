@@ -23,16 +23,16 @@ fn text(alloc: Global, text: &str) -> Result<Tree, AllocError>
     Ok(Tree::Str(JText::of(alloc, text)?))
 }
 
-fn string(text: String) -> Tree
-    ensures { result ≡ Tree.Str (string_bytes text) }
+fn string(text: String) -> Result<Tree, AllocError>
+    ensures { IfOk result (λ t. t ≡ Tree.Str (string_bytes text)) }
 {
-    Tree::Str(JText::from_string(text))
+    Ok(Tree::Str(JText::from_string(text)?))
 }
 
 fn number(alloc: Global, n: u32) -> Result<Tree, AllocError>
     ensures { IfOk result (λ t. t ≡ Tree.Number (decimal n)) }
 {
-    let digits = JText::from_string(n.to_string(alloc)?);
+    let digits = JText::from_string(n.to_string(alloc)?)?;
     Ok(Tree::Number(Number::of(digits)))
 }
 
@@ -65,7 +65,7 @@ fn pair(
 fn hex(alloc: Global, bytes: &[u8]) -> Result<Tree, AllocError>
     ensures { IfOk result (λ t. t ≡ hex_text bytes.now) }
 {
-    Ok(string(hex::encode(alloc, bytes)?))
+    string(hex::encode(alloc, bytes)?)
 }
 
 // Bits are kept with the low byte first, and print with the high byte first.
@@ -99,7 +99,7 @@ fn binary(alloc: Global, subtype: u8, bytes: &[u8]) -> Result<Tree, AllocError>
 {
     let encoded = STANDARD.encode(alloc, bytes)?;
     let subtype = hex(alloc, &[subtype])?;
-    let inner = pair(alloc, "base64", string(encoded), "subType", subtype)?;
+    let inner = pair(alloc, "base64", string(encoded)?, "subType", subtype)?;
     wrap(alloc, "$binary", inner)
 }
 
@@ -119,14 +119,14 @@ pub(crate) fn int(alloc: Global, n: i32) -> Result<Tree, AllocError>
     ensures { IfOk result (λ t. t ≡ int_tree n) }
 {
     let digits = n.to_string(alloc)?;
-    wrap(alloc, "$numberInt", string(digits))
+    wrap(alloc, "$numberInt", string(digits)?)
 }
 
 pub(crate) fn long(alloc: Global, n: i64) -> Result<Tree, AllocError>
     ensures { IfOk result (λ t. t ≡ long_tree n) }
 {
     let digits = n.to_string(alloc)?;
-    wrap(alloc, "$numberLong", string(digits))
+    wrap(alloc, "$numberLong", string(digits)?)
 }
 
 fn date(alloc: Global, n: i64) -> Result<Tree, AllocError>

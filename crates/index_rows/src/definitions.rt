@@ -10,7 +10,7 @@ use std::alloc::Global;
 // The text of a normal form, which is its own.
 fn form_text(alloc: Global, form: &Tree) -> Result<String> {
     match normal(alloc, form)? {
-        Some(again) if again.same(form) => Ok(print(alloc, form)?.into_string()),
+        Some(again) if again.same(form) => Ok(print(alloc, form)?.into_string()?),
         _ => answer(alloc, "another form again"),
     }
 }

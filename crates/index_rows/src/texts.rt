@@ -34,7 +34,7 @@ pub fn definition(alloc: Global, text: &str) -> Result<Tree> {
 
 /// The value as JSON.
 pub fn shown(alloc: Global, value: &Value) -> Result<String> {
-    Ok(print(alloc, &tree_of(alloc, value)?)?.into_string())
+    Ok(print(alloc, &tree_of(alloc, value)?)?.into_string()?)
 }
 
 /// Two values as JSON.

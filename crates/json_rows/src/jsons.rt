@@ -10,7 +10,7 @@ fn printed(alloc: Global, tree: &Tree) -> Result<String> {
     let text = print(alloc, tree)?;
     let again = parse(alloc, text.as_str())?;
     if again.same(&tree.copy(alloc)?) {
-        return Ok(text.into_string());
+        return Ok(text.into_string()?);
     }
     answer(alloc, "another value")
 }

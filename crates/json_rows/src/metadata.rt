@@ -29,7 +29,7 @@ pub fn read(alloc: Global, text: &str) -> Result<String> {
     match metadata_of(alloc, text) {
         Ok((options, defs)) => {
             let array = array(alloc, options, defs)?;
-            Ok(print(alloc, &array)?.into_string())
+            Ok(print(alloc, &array)?.into_string()?)
         }
         Err(fault) => fault_text(alloc, fault),
     }

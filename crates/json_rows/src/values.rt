@@ -8,7 +8,7 @@ use row_script::{bytes, number, refused, words};
 use std::alloc::Global;
 
 fn shown(alloc: Global, value: &Value) -> Result<String> {
-    Ok(print(alloc, &tree_of(alloc, value)?)?.into_string())
+    Ok(print(alloc, &tree_of(alloc, value)?)?.into_string()?)
 }
 
 /// The text of the value that a text is, or its fault.
@@ -32,5 +32,5 @@ pub fn decoded(alloc: Global, text: &str) -> Result<String> {
 /// A text with its plain whole numbers as wrappers.
 pub fn wrapped(alloc: Global, text: &str) -> Result<String> {
     let tree = wrap_numbers(alloc, &parse(alloc, text)?)?;
-    Ok(print(alloc, &tree)?.into_string())
+    Ok(print(alloc, &tree)?.into_string()?)
 }

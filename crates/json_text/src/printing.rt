@@ -150,7 +150,7 @@ fn printed(alloc: Global, tree: &Tree) -> Result<JText, AllocError>
 {
     let mut out = String::new(alloc);
     put_tree(&mut out, tree)?;
-    Ok(JText::from_string(out))
+    JText::from_string(out)
 }
 
 /// The text of a value, without spaces. In strings the quote, the backslash and the characters below

@@ -438,7 +438,7 @@ pub(crate) fn string(alloc: Global, end: usize, bytes: &[u8]) -> Result<(JText, 
     let start = end - bytes.len() - 1;
     let (text, rest) = pieces(alloc, start, end, bytes)?;
     match String::from_utf8(text) {
-        Ok(text) => Ok((JText::from_string(text), rest)),
+        Ok(text) => Ok((JText::from_string(text)?, rest)),
         Err(_) => Err(bad(start)),
     }
 }

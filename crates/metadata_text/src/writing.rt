@@ -51,7 +51,7 @@ fn written(
     let name = Tree::Str(ns.coll.copy(alloc)?);
     put(alloc, &mut out, &name)?;
     out.push_str(",\"type\":\"collection\"}")?;
-    Ok(Text::from_string(out))
+    Text::from_string(out)
 }
 
 /// The metadata text of a collection: its options, the definition of the index on `_id`, these

@@ -35,7 +35,7 @@ const GOOD: &str = r#"
 
 fn shown_value(alloc: Global, value: &Value) -> Result<String, AllocError> {
     let tree = tree_of(alloc, value)?;
-    Ok(print(alloc, &tree)?.into_string())
+    Ok(print(alloc, &tree)?.into_string()?)
 }
 
 fn shown_document(alloc: Global, doc: &Doc) -> Result<String, AllocError> {

@@ -215,7 +215,7 @@ impl Collections {
 }
 
 fn definitions_text(alloc: Global, options: &Tree, defs: &JList<Tree>) -> Result<String> {
-    let mut text = print(alloc, options)?.into_string();
+    let mut text = print(alloc, options)?.into_string()?;
     for def in defs.as_slice() {
         text.push(' ')?;
         text.push_str(print(alloc, def)?.as_str())?;

@@ -52,7 +52,7 @@ fn quoted(alloc: Global, ns: &NsName) -> Result<String, AllocError>
     ensures { IfOk result (λ s. string_bytes s ≡ quoted_name ns.now) }
 {
     let name = state_listing::quoted_name(alloc, ns.db.as_str(), ns.coll.as_str())?;
-    Ok(name.into_string())
+    name.into_string()
 }
 
 // A checksum in 16 digits.
@@ -198,14 +198,14 @@ fn id_text(alloc: Global, id: &Value) -> Result<String, AllocError>
     ensures { IfOk result (λ s. string_bytes s ≡ id_text id.now) }
 {
     let text = print(alloc, &tree_of(alloc, id)?)?;
-    Ok(text.into_string())
+    text.into_string()
 }
 
 fn quoted_text(alloc: Global, text: &Text) -> Result<String, AllocError>
     ensures { IfOk result (λ s. string_bytes s ≡ quoted_string text.now) }
 {
     let text = print(alloc, &Tree::Str(text.copy(alloc)?))?;
-    Ok(text.into_string())
+    text.into_string()
 }
 
 // A collection and an index of it.

@@ -1,0 +1,7 @@
+use Rattle.std.proofs.Common.{subst, sym}
+use Rattle.std.specs.Prelude.{IsUtf8}
+use Rattle.std.proofs.lemmas.Str.{IsUtf8-had}
+use Rattle.containers.proofs.inline.InlineString.as_str.Goals as goal
+
+pub from_utf8_unchecked-requires : goal.from_utf8_unchecked-requires
+from_utf8_unchecked-requires c = subst IsUtf8 (sym c.as_slice.ensures) (IsUtf8-had _ c.self.invariant)
