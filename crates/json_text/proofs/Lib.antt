@@ -4,6 +4,7 @@ pub mod Texts
 pub mod Printed
 pub mod Numerals
 pub mod Strings
+pub mod Plain
 pub mod Spelled
 pub mod Found
 pub mod FoundStrings

@@ -1,5 +1,5 @@
 -- What a piece of a string adds to it.
-use Rattle.std.specs.Prelude.{ℕ, Bool, true, false, List, [], ◌∷◌}
+use Rattle.std.specs.Prelude.{ℕ, Bool, true, false, not, ◌||◌, ◌==◌, nat_lt, List, [], ◌∷◌}
 use Rattle.std.specs.Char.{encode_utf8}
 use Rattle.json_text.specs.declared.tokens.Piece.{Piece}
 use Rattle.json_text.specs.declared.tokens.Piece.TheVariants as pieces
@@ -13,3 +13,7 @@ bytes_of pieces.End = []
 abbrev pub goes_on : Piece → Bool
 goes_on pieces.End = false
 goes_on _ = true
+
+-- whether this byte stands for itself in a string
+abbrev pub is_plain : ℕ → Bool
+is_plain b = not (b == 34 || b == 92 || nat_lt b 32)

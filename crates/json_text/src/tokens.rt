@@ -1,10 +1,11 @@
 //! The tokens of JSON. Each reader is given the place at which the text ends, and the bytes up to there.
 //! A token fails at its start, or at the end where the text ends in it.
-ghost use Rattle.std.specs.Prelude.{◌≡◌, ◌+◌, ◌-◌, ◌*◌, ◌<◌, ◌≤◌, ◌⊎◌, suc, ◌==◌, [], ◌∷◌, ◌++◌, ℕ, List, length, take, drop, IfOk, OnOk, MatchOption, true, false, if◌then◌else◌};
+ghost use Rattle.std.specs.Prelude.{◌≡◌, ◌+◌, ◌-◌, ◌*◌, ◌<◌, ◌≤◌, ◌⊎◌, suc, ◌==◌, [], ◌∷◌, ◌++◌, ℕ, List, length, take, drop, IfOk, IfSome, OnOk, Ok, MatchOption, true, false, if◌then◌else◌};
+ghost use Rattle.std.specs.List.{prefix_len};
 ghost use Rattle.std.specs.Str.{is_utf8};
 ghost use Rattle.json_tree.specs.Numbers.{is_digit};
 ghost use Rattle.json_text.specs.Reading.{Gives, is_space, after_space, word_at, after_digits, digits_at, whole_at, after_minus, after_sign, fraction_at, exponent_at, after_number, number_at, hex_value, within, hex_at, unit_at, low_at, unicode_at, meant, escape_at, piece_at, steps_at, string_at};
-ghost use Rattle.json_text.specs.Pieces.{bytes_of, goes_on};
+ghost use Rattle.json_text.specs.Pieces.{bytes_of, goes_on, is_plain};
 
 use crate::fault::JsonFault;
 use containers::Text as JText;
@@ -406,7 +407,21 @@ fn next_piece(start: usize, end: usize, bytes: &[u8]) -> Result<(Piece, &[u8]), 
     }
 }
 
-// The pieces up to the closing quote, one behind the other.
+fn is_plain(b: u8) -> bool
+    ensures { result ≡ is_plain b }
+{
+    b != b'"' && b != b'\\' && 31 < b
+}
+
+// How many bytes at the front stand for themselves in a string.
+fn plain_len(bytes: &[u8]) -> usize
+    ensures value { result ≡ prefix_len is_plain bytes.now }
+    ensures fits { result ≤ length bytes.now }
+{
+    bytes.iter().take_while(|b| is_plain(**b)).count()
+}
+
+// The pieces up to the closing quote, one behind the other. Plain bytes are put at once.
 fn pieces(
     alloc: Global,
     start: usize,
@@ -419,7 +434,9 @@ fn pieces(
     let mut text = Vec::new(alloc);
     let mut rest = bytes;
     'pieces: loop {
-        let (piece, after) = next_piece(start, end, rest)?;
+        let (plain, special) = rest.split_at(plain_len(rest));
+        text.extend_from_slice(plain)?;
+        let (piece, after) = next_piece(start, end, special)?;
         piece.put(&mut text)?;
         if !piece.goes_on() {
             return Ok((text, after));
@@ -428,9 +445,9 @@ fn pieces(
     }
 }
 
-/// The string whose opening quote stands before these bytes, and the bytes behind it.
+// The string in which an escape stands, or a fault.
 #[tactic(auto, unfolding(crate::specs::Reading::string_at))]
-pub(crate) fn string(alloc: Global, end: usize, bytes: &[u8]) -> Result<(JText, &[u8]), JsonFault>
+fn escaped_string(alloc: Global, end: usize, bytes: &[u8]) -> Result<(JText, &[u8]), JsonFault>
     requires { length bytes.now < end }
     ensures gives { Gives (λ x. (x.0, x.1.now)) result (string_at end bytes.now) }
     ensures fits { IfOk result (λ x. length x.1.now ≤ length bytes.now) }
@@ -440,5 +457,30 @@ pub(crate) fn string(alloc: Global, end: usize, bytes: &[u8]) -> Result<(JText, 
     match String::from_utf8(text) {
         Ok(text) => Ok((JText::from_string(text)?, rest)),
         Err(_) => Err(bad(start)),
+    }
+}
+
+// A string that is plain up to its closing quote, and the bytes behind it.
+fn plain_string(bytes: &[u8]) -> Option<(&str, &[u8])>
+    ensures gives { (end : ℕ) → IfSome result (λ x. string_at end bytes.now ≡ Ok (x.0.now, x.1.now)) }
+    ensures fits { IfSome result (λ x. length x.1.now ≤ length bytes.now) }
+{
+    let (plain, special) = bytes.split_at(plain_len(bytes));
+    let (quote, rest) = special.split_first()?;
+    if *quote != b'"' {
+        return None;
+    }
+    Some((text_of(plain)?, rest))
+}
+
+/// The string whose opening quote stands before these bytes, and the bytes behind it.
+pub(crate) fn string(alloc: Global, end: usize, bytes: &[u8]) -> Result<(JText, &[u8]), JsonFault>
+    requires { length bytes.now < end }
+    ensures gives { Gives (λ x. (x.0, x.1.now)) result (string_at end bytes.now) }
+    ensures fits { IfOk result (λ x. length x.1.now ≤ length bytes.now) }
+{
+    match plain_string(bytes) {
+        Some((text, rest)) => Ok((JText::of(alloc, text)?, rest)),
+        None => escaped_string(alloc, end, bytes),
     }
 }

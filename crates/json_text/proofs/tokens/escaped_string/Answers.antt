@@ -2,7 +2,7 @@ use Rattle.std.proofs.Common.{ap, sym, ◌∙◌}
 use Rattle.std.specs.Str.{is_utf8}
 use Rattle.std.proofs.lemmas.Str.{is_utf8-from_IsUtf8, IsUtf8-string_bytes}
 use Rattle.json_text.proofs.Texts.{string_is, string_not}
-use Rattle.json_text.proofs.tokens.string.Goals as goal
+use Rattle.json_text.proofs.tokens.escaped_string.Goals as goal
 
 pub returns-in-Ok-clause-gives : goal.returns-in-Ok-clause-gives
 returns-in-Ok-clause-gives c =
