@@ -5,4 +5,4 @@ use Rattle.extjson.proofs.writing.binary.Goals as goal
 
 pub returns : goal.returns
 unfolding binary_tree
-returns c = wrap_is c.wrap.result _ _ _ (c.in_ok-inner.ensures ∙ pair_is _ _ _ _ _ _ (c.string.ensures ∙ str_is _ _ c.in_ok-encoded.ensures.text) c.in_ok-subtype.ensures) c.wrap.ensures
+returns c = wrap_is c.wrap.result _ _ _ (c.in_ok-inner.ensures ∙ pair_is _ _ _ _ _ _ (c.in_ok-string.ensures ∙ str_is _ _ c.in_ok-encoded.ensures.text) c.in_ok-subtype.ensures) c.wrap.ensures

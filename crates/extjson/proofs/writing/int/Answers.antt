@@ -10,4 +10,4 @@ pub returns : goal.returns
 unfolding int_tree
 returns c =
     subst (λ (z : ℤ). IfOk c.wrap.result (λ t. t ≡ int_tree z)) (to_z-of_z w32 c.args.n c.ranges.n)
-    (wrap_is c.wrap.result _ _ _ (c.string.ensures ∙ str_is _ _ c.in_ok-digits.ensures.ok) c.wrap.ensures)
+    (wrap_is c.wrap.result _ _ _ (c.in_ok-string.ensures ∙ str_is _ _ c.in_ok-digits.ensures.ok) c.wrap.ensures)

@@ -10,4 +10,4 @@ pub returns : goal.returns
 unfolding long_tree
 returns c =
     subst (λ (z : ℤ). IfOk c.wrap.result (λ t. t ≡ long_tree z)) (to_z-of_z w64 c.args.n c.ranges.n)
-    (wrap_is c.wrap.result _ _ _ (c.string.ensures ∙ str_is _ _ c.in_ok-digits.ensures.ok) c.wrap.ensures)
+    (wrap_is c.wrap.result _ _ _ (c.in_ok-string.ensures ∙ str_is _ _ c.in_ok-digits.ensures.ok) c.wrap.ensures)

@@ -4,4 +4,4 @@ use Rattle.extjson.proofs.Decimals.{decimal_number}
 use Rattle.extjson.proofs.writing.number.Goals as goal
 
 pub of-requires : goal.of-requires
-of-requires c = subst IsNumber (sym (c.from_string-digits.ensures ∙ c.in_ok-to_string.ensures.ok)) (decimal_number c.args.n (omega (arith, c.ranges.n.fits)))
+of-requires c = subst IsNumber (sym (c.in_ok-digits.ensures ∙ c.in_ok-to_string.ensures.ok)) (decimal_number c.args.n (omega (arith, c.ranges.n.fits)))
