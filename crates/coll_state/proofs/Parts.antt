@@ -44,6 +44,10 @@ number_some ns rs k e c f = ap (option_map (λ (z : Numbered). z.no)) f ∙ c k
 pub number_none : (ns : List Numbered) (rs : List Record) (k : Key) → Covers ns (rows_in rs) → None ≡ found (at_key k) ns → None ≡ no_in (row_of (rows_in rs) k)
 number_none ns rs k c f = ap (option_map (λ (z : Numbered). z.no)) f ∙ c k
 
+-- that of an element that was looked for
+pub number_is : (ns : List Numbered) (rs : List Record) (k : Key) (n : Option ℕ) (o : Option Numbered) → Covers ns (rows_in rs) → n ≡ option_map (λ (z : Numbered). z.no) o → o ≡ found (at_key k) ns → n ≡ no_in (row_of (rows_in rs) k)
+number_is ns rs k n o c e f = e ∙ (ap (option_map (λ (z : Numbered). z.no)) f ∙ c k)
+
 pub absent_of : (rs : List Row) (k : Key) → None ≡ no_in (row_of rs k) → row_of rs k ≡ None
 absent_of rs k e = row_absent rs k (row_of rs k) refl (sym e)
 

@@ -95,6 +95,16 @@ fn order_beside(key: &SmallBytes, id: &Value) -> Ordering
     }
 }
 
+fn number_in(taken: Option<Numbered>) -> Option<u128>
+    ensures { result ≡ option_map (λ n. n.no) taken }
+{
+    match taken {
+        Some(numbered) => Some(numbered.no),
+        None => None,
+    }
+}
+
+// A byte in front of at most 12.
 fn tagged(tag: u8, bytes: &[u8]) -> SmallBytes
     requires { length bytes.now ≤ 12 }
     ensures { result ≡ tag ∷ bytes.now }
@@ -303,12 +313,11 @@ impl Collection {
         ensures table { self.new.table ≡ drop_table (key_of id.now) self.old.table }
         ensures room { self.old.room ≤ self.new.room }
     {
-        match self
-            .numbers
-            .remove(|numbered| order_beside(&numbered.key, id))
-        {
-            Some(numbered) => {
-                let no = numbered.no;
+        match number_in(
+            self.numbers
+                .remove(|numbered| order_beside(&numbered.key, id)),
+        ) {
+            Some(no) => {
                 let _ = self.records.remove(|record| record.no.cmp(&no));
                 true
             }
