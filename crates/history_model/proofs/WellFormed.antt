@@ -32,7 +32,7 @@ use Rattle.update_model.specs.declared.fault.UpdateFault.{UpdateFault}
 use Rattle.update_model.specs.Equality.{same}
 use Rattle.update_model.specs.Reading.{operators, ops_fault}
 use Rattle.update_model.specs.Updating.{updated}
-use Rattle.update_records.proofs.Texts.{name_letters}
+use Rattle.update_action.proofs.Texts.{name_letters}
 use Rattle.update_records.proofs.Changed.{other_name, field_formed, without_fields, without_names, without_distinct}
 use Rattle.update_records.proofs.Made.{updated_formed}
 use Rattle.history_model.specs.Documents.{id_before, id_first, normal_of}

@@ -31,7 +31,7 @@ path_as_names (p ∷ []) = key_as_name p
 path_as_names (p ∷ (q ∷ ps)) = λ i. key_as_name p i ++ (dot ∷ path_as_names (q ∷ ps) i)
 
 -- the place of a way and its last part
-parted : (p : Part) (ps : List Part) → (way_and_last p ps).0 ++ ((way_and_last p ps).1 ∷ []) ≡ p ∷ ps
+pub parted : (p : Part) (ps : List Part) → (way_and_last p ps).0 ++ ((way_and_last p ps).1 ∷ []) ≡ p ∷ ps
 parted p [] = refl
 parted p (q ∷ qs) = ap (λ (z : List Part). p ∷ z) (parted q qs)
 

@@ -1,1 +1,4 @@
 pub mod Alike
+pub mod Texts
+pub mod One
+pub mod Again

@@ -3,8 +3,9 @@ ghost use Rattle.std.specs.Prelude.{◌≡◌, ◌≤◌, length, IfOk};
 ghost use Rattle.bson_value.specs.Spelling.{document_text};
 ghost use Rattle.update_action.specs.Recorded.{action_of};
 
-use crate::delta::{delta_text, read_again};
-use bson_value::{Doc, Value};
+use crate::delta::{all_copied, delta_text, read_again};
+use crate::single::is_read_again;
+use bson_value::{Doc, List, Value};
 use doc_path::{Form, Touch};
 use entry_model::Action;
 use std::alloc::{AllocError, Global};
@@ -18,11 +19,21 @@ fn whole(alloc: Global, id: &Value, new: &Doc) -> Result<Action, AllocError>
     })
 }
 
+fn delta(alloc: Global, id: &Value, form: Form, touches: List<Touch>) -> Result<Action, AllocError>
+    ensures { IfOk result (λ a. a ≡ Action.Delta id.now form touches) }
+{
+    Ok(Action::Delta {
+        id: id.copy(alloc)?,
+        form,
+        touches,
+    })
+}
+
 /// The action that records an update of the document of an `_id`, in this form: `Whole` where the delta is longer
 /// than the document after the update, else `Delta` with the touches in the order of the fields that spell them.
 /// In the first form their names are those of digits for indexes, none is of a new field, and a Set of the whole array
 /// stands for a length. The touches are those of one accepted update. It takes the time and the memory of writing
-/// the delta and of reading it again.
+/// the delta, and of reading it again but for one touch of few levels in the second form.
 pub fn update_action(
     alloc: Global,
     id: &Value,
@@ -37,12 +48,11 @@ pub fn update_action(
     if new.spelling_len() < text.as_slice().len() {
         return whole(alloc, id, new);
     }
+    if is_read_again(form, touches) {
+        return delta(alloc, id, form, all_copied(alloc, touches)?);
+    }
     match read_again(alloc, text.as_slice())? {
-        Some((form, touches)) => Ok(Action::Delta {
-            id: id.copy(alloc)?,
-            form,
-            touches,
-        }),
+        Some((form, touches)) => delta(alloc, id, form, touches),
         None => whole(alloc, id, new),
     }
 }

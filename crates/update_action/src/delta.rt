@@ -32,9 +32,9 @@ fn whole_array(alloc: Global, new: &Doc, place: &Place, len: u32) -> Result<Touc
     }
 }
 
-/// The touch with a Set of the whole array in the place of its length.
-fn without_length(alloc: Global, new: &Doc, touch: &Touch) -> Result<Touch, AllocError>
-    ensures { IfOk result (λ t. t ≡ without_length (Object new.now) touch.now) }
+/// An equal touch.
+fn copied(alloc: Global, touch: &Touch) -> Result<Touch, AllocError>
+    ensures { IfOk result (λ t. t ≡ touch.now) }
 {
     match touch {
         Touch::Set {
@@ -49,6 +49,30 @@ fn without_length(alloc: Global, new: &Doc, touch: &Touch) -> Result<Touch, Allo
         Touch::Unset { place } => Ok(Touch::Unset {
             place: place.copy(alloc)?,
         }),
+        Touch::Resize { place, len } => Ok(Touch::Resize {
+            place: place.copy(alloc)?,
+            len: *len,
+        }),
+    }
+}
+
+/// The same touches.
+pub(crate) fn all_copied(alloc: Global, touches: &[Touch]) -> Result<List<Touch>, AllocError>
+    ensures { IfOk result (λ ts. ts ≡ touches.now) }
+{
+    let mut all = List::with_capacity(alloc, touches.len())?;
+    for touch in touches {
+        all.push(copied(alloc, touch)?)?;
+    }
+    Ok(all)
+}
+
+/// The touch with a Set of the whole array in the place of its length.
+fn without_length(alloc: Global, new: &Doc, touch: &Touch) -> Result<Touch, AllocError>
+    ensures { IfOk result (λ t. t ≡ without_length (Object new.now) touch.now) }
+{
+    match touch {
+        Touch::Set { .. } | Touch::Unset { .. } => copied(alloc, touch),
         Touch::Resize { place, len } => whole_array(alloc, new, place, *len),
     }
 }

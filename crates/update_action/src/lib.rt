@@ -3,5 +3,6 @@
 
 mod action;
 mod delta;
+mod single;
 
 pub use action::update_action;

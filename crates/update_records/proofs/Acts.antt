@@ -30,7 +30,7 @@ use Rattle.update_model.specs.Located.{Located, There, Missing, Blocked, part_in
 use Rattle.update_model.specs.Steps.{Trace, after, mark, marks_of, elements, padding, newly, replaced, added, appended, removed, cut}
 use Rattle.update_model.specs.Acts.{Act, Steps, Refused, Oversized, is_far, made_at, changed_at, set, is_null, unset, counted_as, counted, count, goes_through_array, can_take, moved_to, moved, rename, grown, pushed_in, push, new_ones, shortened, popped, popped_in, pop, others, pulled_in, pull, act}
 use Rattle.update_model.specs.Updating.{Outcome, fields_of, refusal_at_end, ended, and_more, on_act, outcome}
-use Rattle.update_records.proofs.Texts.{name_digits}
+use Rattle.update_action.proofs.Texts.{name_digits}
 use Rattle.update_records.proofs.Spelled.{AreNamed, named_end}
 use Rattle.update_records.proofs.Changed.{child_formed, changed_formed}
 

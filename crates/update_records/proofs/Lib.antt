@@ -1,5 +1,4 @@
 pub mod Levels
-pub mod Texts
 pub mod Formed
 pub mod Spelled
 pub mod Once

@@ -13,8 +13,9 @@ use Rattle.entry_model.specs.Edits.{Step, Sets, Unsets, Resizes, Edit, In, picke
 use Rattle.entry_model.specs.Written.{s_of, u_of, d_name, u_name, i_name, a_name, l_name, v_name, set_name, unset_name, diff_name, section, gone_in, set_in, new_in, gone, set, new, document_diff, length_in, set_at, parts, below, at_part, array_diff, is_array, diff, path_of, path_set, path_gone, spelled_v1, spelled_v2}
 use Rattle.entry_model.proofs.Lists.{picked_in, mapped_in, gathered_in, once_in}
 use Rattle.entry_model.proofs.Standing.{group_in}
+use Rattle.update_action.proofs.Texts.{name_append, name_letters, name_letter, name_led}
+use Rattle.update_action.proofs.One.{name_v, name_diff}
 use Rattle.update_records.proofs.Levels.{Fields}
-use Rattle.update_records.proofs.Texts.{name_append, name_letters}
 use Rattle.update_records.proofs.Formed.{IsSound, SoundFields, sound_object, sound_truth, sound_int, sound_none, sound_next, sound_append, sound_section}
 
 abbrev pub AreNamed : List Part → Type 0
@@ -37,32 +38,26 @@ IsSoundField f = IsName f.0 × IsSound f.1
 
 -- ---- names
 
-short : (b : ℕ) (k : List ℕ) → 0 < b → b < 128 → IsName k → IsName (b ∷ k)
-short b k l h n = name_append (b ∷ []) k (name_letters (b ∷ []) ((l, h), tt)) n
-
 name_s : (p : Part) → IsName (key_of p) → IsName (s_of p)
-name_s p n = short 115 (key_of p) (omega arith) (omega arith) n
+name_s p n = name_led 115 (key_of p) (omega arith) (omega arith) n
 
 name_u : (p : Part) → IsName (key_of p) → IsName (u_of p)
-name_u p n = short 117 (key_of p) (omega arith) (omega arith) n
-
-one_letter : (b : ℕ) → 0 < b → b < 128 → IsName (b ∷ [])
-one_letter b l h = name_letters (b ∷ []) ((l, h), tt)
+name_u p n = name_led 117 (key_of p) (omega arith) (omega arith) n
 
 name_a : IsName a_name
-name_a = one_letter 97 (omega arith) (omega arith)
+name_a = name_letter 97 (omega arith) (omega arith)
 
 name_l : IsName l_name
-name_l = one_letter 108 (omega arith) (omega arith)
+name_l = name_letter 108 (omega arith) (omega arith)
 
 name_d : IsName d_name
-name_d = one_letter 100 (omega arith) (omega arith)
+name_d = name_letter 100 (omega arith) (omega arith)
 
 name_sets : IsName u_name
-name_sets = one_letter 117 (omega arith) (omega arith)
+name_sets = name_letter 117 (omega arith) (omega arith)
 
 name_i : IsName i_name
-name_i = one_letter 105 (omega arith) (omega arith)
+name_i = name_letter 105 (omega arith) (omega arith)
 
 fits : (n : ℕ) → n < 2 ^ 31 → FitsSigned w32 (pos n)
 fits n h = omega (arith, h)
@@ -167,12 +162,6 @@ diff_sound : (n : ℕ) (es : List Edit) → AreSound es → SoundFields (diff n 
 diff_sound zero es h = sound_none
 diff_sound (suc n) es h = level_sound (λ r. diff n (group r es)) (λ r. diff_sound n (group r es) (group_sound r es h)) es h (is_array es)
 
-name_v : IsName v_name
-name_v = name_letters v_name ((omega arith, omega arith), ((omega arith, omega arith), tt))
-
-name_diff : IsName diff_name
-name_diff = name_letters diff_name ((omega arith, omega arith), ((omega arith, omega arith), ((omega arith, omega arith), ((omega arith, omega arith), tt))))
-
 pub second_sound : (n : ℕ) (es : List Edit) → AreSound es → SoundFields (spelled_v2 n es)
 second_sound n es h =
     sound_next v_name (Int (pos 2)) ((diff_name, Object (diff n es)) ∷ []) name_v (sound_int (pos 2) (omega arith))
@@ -183,7 +172,7 @@ second_sound n es h =
 path_named : (ps : List Part) → AreNamed ps → IsName (path_of ps)
 path_named [] h = name_letters [] tt
 path_named (p ∷ []) h = h.0
-path_named (p ∷ (q ∷ ps)) h = name_append (key_of p) (dot ∷ path_of (q ∷ ps)) h.0 (short dot (path_of (q ∷ ps)) (omega arith) (omega arith) (path_named (q ∷ ps) h.1))
+path_named (p ∷ (q ∷ ps)) h = name_append (key_of p) (dot ∷ path_of (q ∷ ps)) h.0 (name_led dot (path_of (q ∷ ps)) (omega arith) (omega arith) (path_named (q ∷ ps) h.1))
 
 pub named_end : (ps : List Part) (p : Part) → AreNamed ps → IsName (key_of p) → AreNamed (ps ++ (p ∷ []))
 named_end [] p h n = (n, tt)

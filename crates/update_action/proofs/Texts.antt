@@ -43,6 +43,13 @@ name_letters bs h = record {
   no_zero = letters_full bs h;
 }
 
+pub name_letter : (b : ℕ) → 0 < b → b < 128 → IsName (b ∷ [])
+name_letter b l h = name_letters (b ∷ []) ((l, h), tt)
+
+-- a letter in front of a name
+pub name_led : (b : ℕ) (k : List ℕ) → 0 < b → b < 128 → IsName k → IsName (b ∷ k)
+name_led b k l h n = name_append (b ∷ []) k (name_letter b l h) n
+
 letters_append : (xs ys : List ℕ) → AreLetters xs → AreLetters ys → AreLetters (xs ++ ys)
 letters_append [] ys h g = g
 letters_append (x ∷ xs) ys h g = (h.0, letters_append xs ys h.1 g)
