@@ -151,18 +151,25 @@ impl Collection {
         let _ = &self.options;
     }
 
-    fn number(&self, id: &Value) -> Option<u128>
+    // The number under any `_id`, which isn't written.
+    fn compared_number(&self, id: &Value) -> Option<u128>
         ensures { result ≡ option_map (λ r. r.no) (row_of self.now.table.rows (key_of id.now)) }
     {
-        if let Some(key) = short_key(id) {
-            return self.number_of_key(&key);
-        }
         match self
             .numbers
             .find(|numbered| order_beside(&numbered.key, id))
         {
             Some(numbered) => Some(numbered.no),
             None => None,
+        }
+    }
+
+    fn number(&self, id: &Value) -> Option<u128>
+        ensures { result ≡ option_map (λ r. r.no) (row_of self.now.table.rows (key_of id.now)) }
+    {
+        match short_key(id) {
+            Some(key) => self.number_of_key(&key),
+            None => self.compared_number(id),
         }
     }
 
