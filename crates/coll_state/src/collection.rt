@@ -36,6 +36,11 @@ pub(crate) struct Record {
     pub(crate) document: Kept,
 }
 
+/// The rank of a record among all that were added.
+pub(crate) fn rank_of(no: u128) -> usize {
+    usize::try_from(no.saturating_sub(1)).unwrap_or(0)
+}
+
 /// A collection. Contracts also see how many documents more it has room for.
 #[derive(Drop)]
 pub(crate) struct Collection {
@@ -178,7 +183,8 @@ impl Collection {
         ensures { option_map (λ r. row_in r.now) result ≡ row_of self.now.table.rows (key_of id.now) }
     {
         let no = self.number(id)?;
-        self.records.find(|record| record.no.cmp(&no))
+        self.records
+            .find_near(rank_of(no), |record| record.no.cmp(&no))
     }
 
     /// The options.

@@ -5,7 +5,7 @@ ghost use Rattle.coll_state.specs.Documents.{under, values_under, records_in, Ar
 ghost use Rattle.coll_state.specs.Rows.{Rising};
 ghost use Rattle.coll_state.specs.Stock.{rows_in};
 
-use crate::collection::{Numbered, Record};
+use crate::collection::{Numbered, Record, rank_of};
 use bson_view::Held;
 use sorted_list::{SortedList, Walk};
 use std::marker::Model;
@@ -39,7 +39,7 @@ fn record_under<'a>(records: Option<&'a SortedList<Record>>, no: u128) -> Option
     ensures { Rising 0 (rows_in (records_in records.entry)) → option_copied result ≡ under (records_in records.entry) no }
 {
     match records {
-        Some(records) => records.find(|record| record.no.cmp(&no)),
+        Some(records) => records.find_near(rank_of(no), |record| record.no.cmp(&no)),
         None => None,
     }
 }

@@ -2,3 +2,4 @@ pub mod Order
 pub mod Chunks
 pub mod Ends
 pub mod Edits
+pub mod Near

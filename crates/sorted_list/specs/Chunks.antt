@@ -1,5 +1,5 @@
 -- A list in chunks, and the chunk to which a search leads.
-use Rattle.std.specs.Prelude.{⊤, ◌≡◌, ◌<◌, ℕ, suc, List, [], ◌∷◌, ◌++◌, Bool, true, false, if◌then◌else◌, length, Option, Some, None}
+use Rattle.std.specs.Prelude.{⊤, ◌≡◌, ◌<◌, ◌+◌, ℕ, suc, List, [], ◌∷◌, ◌++◌, Bool, true, false, if◌then◌else◌, length, Option, Some, None}
 use Rattle.std.specs.Ordering.{is_lt}
 use Rattle.std.specs.declared.cmp.Ordering.{Ordering}
 use Rattle.std.specs.declared.cmp.Ordering.TheVariants.{Less, Greater}
@@ -26,6 +26,10 @@ abbrev pub last_of : {T : Type 0} → List T → Option T
 last_of [] = None
 last_of (x ∷ []) = Some x
 last_of (x ∷ (y ∷ ys)) = last_of (y ∷ ys)
+
+-- the last chunk takes one more element, and isn't full then
+abbrev pub HasRoom : {T : Type 0} → List (List T) → Type 0
+HasRoom {T} cs = (c : List T) × ((last_of cs ≡ Some c) × (length c + 1 < chunk_len))
 
 abbrev pub side : Bool → Ordering
 side true = Less

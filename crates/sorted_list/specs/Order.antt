@@ -1,5 +1,5 @@
 -- Lists whose elements a search orders: those below what is sought, it itself at most once, and those above it.
-use Rattle.std.specs.Prelude.{slice_index_or, ⊤, ◌≡◌, ℕ, suc, List, [], ◌∷◌, refl, Option, Some, None, if◌then◌else◌}
+use Rattle.std.specs.Prelude.{slice_index_or, slice_get, ⊤, ◌≡◌, ℕ, suc, List, [], ◌∷◌, refl, Option, Some, None, if◌then◌else◌}
 use Rattle.std.specs.Coded.{Coded, code_by, coded×, coded_ℕ, coded_list}
 use Rattle.std.specs.Ordering.{is_eq, is_lt}
 use Rattle.std.specs.declared.cmp.Ordering.{Ordering}
@@ -66,3 +66,7 @@ module _ {T : Type 0} (ord : T → Ordering) where
   pub record IsGap (xs : List T) (at : ℕ) : Type 0 where
     pub is_place : place xs ≡ at
     pub is_absent : found xs ≡ None
+
+-- an element of a list
+abbrev pub StandsIn : {T : Type 0} → T → List T → Type 0
+StandsIn x xs = (i : ℕ) × (slice_get xs i ≡ Some x)

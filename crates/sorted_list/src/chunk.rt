@@ -1,5 +1,5 @@
 //! A part of a list.
-ghost use Rattle.std.specs.Prelude.{◌≡◌, ◌+◌, ◌<◌, ◌≤◌, [], ◌∷◌, ◌++◌, IfOk, length, insert};
+ghost use Rattle.std.specs.Prelude.{slice_get, ◌≡◌, ◌+◌, ◌<◌, ◌≤◌, [], ◌∷◌, ◌++◌, IfOk, length, insert};
 ghost use Rattle.std.specs.Option.{option_copied};
 ghost use Rattle.std.specs.Fn.{ComputesKey};
 ghost use Rattle.std.specs.declared.cmp.Ordering.{Ordering as Order};
@@ -49,6 +49,12 @@ impl<T> Chunk<T> {
         ensures { result.now ≡ self.now }
     {
         self.items.as_slice()
+    }
+
+    pub(crate) fn get(&self, at: usize) -> Option<&T>
+        ensures { option_copied result ≡ slice_get self.now at }
+    {
+        self.items.as_slice().get(at)
     }
 
     pub(crate) fn len(&self) -> usize

@@ -1,10 +1,11 @@
 //! The list.
-ghost use Rattle.std.specs.Prelude.{◌≡◌, ◌+◌, ◌≤◌, [], ◌∷◌, ◌++◌, OnOk};
+ghost use Rattle.std.specs.Prelude.{◌≡◌, ◌+◌, ◌≤◌, [], ◌∷◌, ◌++◌, OnOk, IfSome, true};
 ghost use Rattle.std.specs.Option.{option_copied};
 ghost use Rattle.std.specs.Fn.{ComputesKey};
 ghost use Rattle.std.specs.declared.cmp.Ordering.{Ordering as Order};
 ghost use Rattle.sorted_list.specs.Compare.{Compares};
-ghost use Rattle.sorted_list.specs.Order.{IsOrdered, found, from, put_in, set_in, take_out};
+ghost use Rattle.sorted_list.specs.Chunks.{HasRoom};
+ghost use Rattle.sorted_list.specs.Order.{IsOrdered, StandsIn, found, from, put_in, set_in, take_out};
 
 use crate::chunk::{CHUNK_LEN, Chunk};
 use crate::parting::part;
@@ -13,6 +14,19 @@ use crate::walk::Walk;
 use std::alloc::{AllocError, Global};
 use std::cmp::Ordering;
 use std::marker::Model;
+
+// Whether the last chunk takes another element.
+fn has_room<T>(chunks: &[Chunk<T>]) -> bool
+    ensures { result ≡ true → HasRoom chunks.now }
+{
+    match chunks.last() {
+        Some(chunk) => chunk.len() < PUSHED_LEN,
+        None => false,
+    }
+}
+
+// So many elements has a chunk to which elements were only pushed.
+const PUSHED_LEN: usize = CHUNK_LEN - 1;
 
 /// Elements in an order by which a search finds them. Contracts also see how many more there is room for.
 ///
@@ -53,6 +67,29 @@ impl<T> SortedList<T> {
             chunks: Vec::new(alloc),
             spares: Vec::new(alloc),
         }
+    }
+
+    // The element at this place of this chunk.
+    fn item_at(&self, chunk: usize, place: usize) -> Option<&T>
+        ensures { IfSome result (λ x. StandsIn x.now self.now.items) }
+    {
+        match self.chunks.as_slice().get(chunk)?.get(place) {
+            Some(item) => Some(item),
+            None => None,
+        }
+    }
+
+    /// The element that is sought. The one of this rank in a list to which elements were only pushed is looked at first.
+    pub fn find_near<F: Fn(&T) -> Ordering>(&self, rank: usize, order: F) -> Option<&T>
+        requires { F.IsAlwaysCallable order }
+        ensures { (ord : T → Order) → ComputesKey F.FnMut ord order → IsOrdered ord self.now.items → option_copied result ≡ found ord self.now.items }
+    {
+        if let Some(item) = self.item_at(rank / PUSHED_LEN, rank % PUSHED_LEN) {
+            if let Ordering::Equal = order(item) {
+                return Some(item);
+            }
+        }
+        self.find(order)
     }
 
     /// The element that is sought.
@@ -122,11 +159,10 @@ impl<T: Drop> SortedList<T> {
         }
     }
 
-    // The first element of all.
+    // The element behind all others, in a chunk of its own.
     fn begin(&mut self, item: T)
-        requires none { self.old.items ≡ [] }
         requires room { 1 ≤ self.old.room }
-        ensures items { self.new.items ≡ item ∷ [] }
+        ensures items { self.new.items ≡ self.old.items ++ item ∷ [] }
         ensures room { self.old.room ≡ self.new.room + 1 }
     {
         let Some(mut chunk) = self.spares.pop() else {
@@ -173,15 +209,12 @@ impl<T: Drop> SortedList<T> {
         ensures items { self.new.items ≡ self.old.items ++ item ∷ [] }
         ensures room { self.old.room ≤ self.new.room + 1 }
     {
-        if self.chunks.is_empty() {
+        if !has_room(self.chunks.as_slice()) {
             self.begin(item);
             return;
         }
         let at = self.chunks.len() - 1;
         self.chunks[at].push(item);
-        if self.chunks[at].len() == CHUNK_LEN {
-            part(&mut self.chunks, &mut self.spares, at);
-        }
     }
 
     /// Takes out what is sought.

@@ -12,5 +12,5 @@ use Rattle.coll_state.proofs.documents.record_under.Goals as goal
 pub returns-in-Some : goal.returns-in-Some
 returns-in-Some c = λ up.
     let order = records_ordered c.in-Some.records.now.items c.args.no (subst (λ (o : Option (Bor (Shelf Record))). Rising 0 (rows_in (records_in o))) c.in-Some.is up) in
-    c.find.ensures (at_no c.args.no) (always_returns_same _ _ _ (λ a r f called. (search rules, search rules))) order
+    c.find_near.ensures (at_no c.args.no) (always_returns_same _ _ _ (λ a r f called. (search rules, search rules))) order
     ∙ ap (λ (o : Option (Bor (Shelf Record))). under (records_in o) c.args.no) (sym c.in-Some.is)

@@ -20,7 +20,8 @@ invariant_of-self g c =
 
 pub returns-clause-items : goal.returns-clause-items
 returns-clause-items g c =
+    let cs = c.self.inside.chunks.items in
     let empty = subst AreEmpty c.in-Some.ensures.items c.self.invariant.1 in
-    let none = ap (λ (s : Shelf g.row.T.Denot). s.items) c.self.view_is ∙ c.requires.none in
-    ap joined c.in-Ok.ensures.items ∙ (joined_push c.self.inside.chunks.items c.push.new.self
-    ∙ ((λ i. none i ++ c.push.new.self) ∙ (c.push.ensures ∙ ap (λ (l : List g.row.T.Denot). l ++ c.args.item ∷ []) (empty_last c.pop.new.self.items c.in-Some.chunk empty))))
+    let one = c.push.ensures ∙ ap (λ (l : List g.row.T.Denot). l ++ c.args.item ∷ []) (empty_last c.pop.new.self.items c.in-Some.chunk empty) in
+    ap joined c.in-Ok.ensures.items ∙ (joined_push cs c.push.new.self
+    ∙ (ap (λ (l : List g.row.T.Denot). joined cs ++ l) one ∙ ap (λ (s : Shelf g.row.T.Denot). s.items ++ c.args.item ∷ []) c.self.view_is))
