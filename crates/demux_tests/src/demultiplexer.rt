@@ -24,10 +24,10 @@ magic header meta meta stop => Err(Format(BadPrelude { at: 183 })) -- metadata t
 P0 stop => Err(Format(BadHeader { at: 108 })) -- a terminator for the header of a block
 P0 one => Err(Format(BadHeader { at: 108 })) -- a document for the header of a block
 P0 end one => Err(Format(DocsInEnd { at: 160 })) -- a document behind an end
-P0 end stop end stop => Err(Format(AfterEnd { ns: NsName { db: Text { text: \"a\" }, coll: Text { text: \"b\" } }, at: 164 })) -- two ends
-P0 wrong stop => Err(Format(Crc { ns: NsName { db: Text { text: \"a\" }, coll: Text { text: \"b\" } }, said: 1, found: 0 })) -- another checksum
+P0 end stop end stop => Err(Format(AfterEnd { ns: NsName { db: \"a\", coll: \"b\" }, at: 164 })) -- two ends
+P0 wrong stop => Err(Format(Crc { ns: NsName { db: \"a\", coll: \"b\" }, said: 1, found: 0 })) -- another checksum
 P0 open one stop unsummed stop => Ok(()) -- an end without a checksum
-P0 open one stop => Err(Format(NotEnded { ns: NsName { db: Text { text: \"a\" }, coll: Text { text: \"b\" } } })) -- no end
+P0 open one stop => Err(Format(NotEnded { ns: NsName { db: \"a\", coll: \"b\" } })) -- no end
 ";
 
 const INTERLEAVED: &str =

@@ -51,7 +51,8 @@ fn written(
     let name = Tree::Str(ns.coll.copy(alloc)?);
     put(alloc, &mut out, &name)?;
     out.push_str(",\"type\":\"collection\"}")?;
-    Text::from_string(out)
+    let text = Text::from_string(out)?;
+    Ok(text)
 }
 
 /// The metadata text of a collection: its options, the definition of the index on `_id`, these

@@ -1,5 +1,6 @@
 //! The lines of a collection.
-ghost use Rattle.std.specs.Prelude.{◌≡◌, ◌≤◌, ◌++◌, ◌∷◌, OnOk, OnErr, IfOk, IsErrOf, string_bytes};
+ghost use Rattle.std.specs.Prelude.{◌≡◌, ◌≤◌, ◌++◌, ◌∷◌, ℕ, List, OnOk, OnErr, IfOk, IsErrOf, string_bytes};
+ghost use Rattle.json_text.specs.Print.{text_of};
 ghost use Rattle.std.specs.Io.KnownBytes.{Appends};
 ghost use Rattle.bson_value.specs.Namespace.{dot};
 ghost use Rattle.tool_io.specs.Causes.{Rose, AppendsFront};
@@ -21,6 +22,13 @@ pub fn quoted_name(alloc: Global, db: &str, coll: &str) -> Result<JText, AllocEr
     print(alloc, &Tree::Str(name))
 }
 
+// The lines of a name and of options that are printed.
+fn head_of(alloc: Global, name: &str, count: usize, options: &str) -> Result<String, AllocError>
+    ensures { (db : List ℕ) → (coll : List ℕ) → (o : Tree) → name.now ≡ name_text db coll → options.now ≡ text_of o → IfOk result (λ s. string_bytes s ≡ head_text db coll count o) }
+{
+    format!(in alloc; "collection {name} {count}\noptions {options}\n")
+}
+
 fn head(
     alloc: Global,
     db: &str,
@@ -32,9 +40,7 @@ fn head(
 {
     let name = quoted_name(alloc, db, coll)?;
     let options = print(alloc, options)?;
-    let name = name.as_str();
-    let options = options.as_str();
-    format!(in alloc; "collection {name} {count}\noptions {options}\n")
+    head_of(alloc, name.as_str(), count, options.as_str())
 }
 
 /// Writes the lines of a collection that stand before its documents. It is one write.

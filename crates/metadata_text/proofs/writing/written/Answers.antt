@@ -11,7 +11,7 @@ returns-clause-text c =
     let name = text_of (Str c.args.ns.now.coll) in
     let said = rw c.as_slice.ensures at c.in_ok-put_definitions.ensures.text in
     let named = rw c.in_ok-copy.ensures at c.in_ok-put-2.ensures.text in
-    c.from_string.ensures
+    c.in_ok-text.ensures
     ∙ pieces _ _ _ _ _ _ _ _ o ds name c.new-out.ensures.bytes c.in_ok-push_str.ensures.bytes c.in_ok-put.ensures.text c.in_ok-push_str-2.ensures.bytes said c.in_ok-push_str-3.ensures.bytes named c.in_ok-push_str-4.ensures.bytes
     ∙ sym (written c.args.ns.now.coll c.args.options.now c.args.defs.now)
 
