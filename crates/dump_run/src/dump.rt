@@ -274,6 +274,22 @@ impl Dump {
         }
     }
 
+    // The same of a name that isn't needed any more.
+    fn copy_named<K: Sink>(
+        &mut self,
+        store: &Store,
+        ns: NsName,
+        sink: &mut K,
+    ) -> Result<(), DumpFault>
+        ensures does { (c : Caps) (r : Run) → RunOk c r → StandsAt store.now r.stage → Meets self.old r → Does result r (copied_out (ns ∷ []) r) self.new (K.end sink.old) (K.end sink.new) }
+        ensures going { self.old.failed ≡ None → OnOk result (self.new.failed ≡ None) }
+        ensures names { map.keys self.new.state.cursors ≡ map.keys self.old.state.cursors }
+        ensures later { (K.end sink.old).faults ≤ (K.end sink.new).faults }
+        ensures cause { self.old.failed ≡ None → IsErrOf result DumpFault.WriteFault → Rose (K.end sink.old).faults (K.end sink.new).faults }
+    {
+        self.copy_rest(store, &ns, sink)
+    }
+
     // The copy steps that are left, in the order of names.
     fn copy_all<K: Sink>(&mut self, store: &Store, sink: &mut K) -> Result<(), DumpFault>
         ensures does { (c : Caps) (r : Run) → RunOk c r → StandsAt store.now r.stage → Meets self.old r → Does result r (copied_out (map.keys self.old.state.cursors) r) self.new (K.end sink.old) (K.end sink.new) }
@@ -284,7 +300,7 @@ impl Dump {
         let mut at = 0;
         'names: loop {
             match self.copies.name(self.alloc, at) {
-                Ok(Some(ns)) => match self.copy_rest(store, &ns, sink) {
+                Ok(Some(ns)) => match self.copy_named(store, ns, sink) {
                     Ok(()) => at += 1,
                     Err(fault) => return Err(fault),
                 },

@@ -18,16 +18,16 @@ names-init g c = record {
   copies = λ k r ok st m. naming k (map.keys c.args.self.now.state.cursors) r c.args.self.now (g.K.Sink.end c.args.sink.now).bytes m;
 }
 
-pub returns-in-Err-copy_rest-clause-does : goal.returns-in-Err-copy_rest-clause-does
-returns-in-Err-copy_rest-clause-does g c = λ k r ok st m.
+pub returns-in-Err-copy_named-clause-does : goal.returns-in-Err-copy_named-clause-does
+returns-in-Err-copy_named-clause-does g c = λ k r ok st m.
     let ks = map.keys c.args.self.now.state.cursors in
     let there : Some c.in-Ok-Some.ns ≡ slice_get (map.keys c.args.self.now.state.cursors) c.names.at =
     sym c.in-Ok-Some.field-0-is ∙ (c.in-Ok-Some.ensures.name ∙ (ap (λ (z : Dumping). slice_get (map.keys z.state.cursors) c.names.at) c.self.view_is ∙ ap (λ (z : List NsName). slice_get z c.names.at) c.names.invariant.names)) in
     let first = g.K.Sink.end c.args.sink.now in
     let before = g.K.Sink.end c.names.sink in
     let t = subst (λ (z : List NsName). Naming k ks z r c.names.self first.bytes before.bytes) (name_there ks c.names.at c.in-Ok-Some.ns there).0 (c.names.invariant.copies k r ok st m) in
-    name_fails k ks r c.names.self c.copy_rest.new.self first before (g.K.Sink.end c.copy_rest.new.sink) c.in-Ok-Some.ns (drop (c.names.at + 1) ks) t c.in-Err-copy_rest.fault
-    (c.in-Err-copy_rest.ensures.does k t.at (t.later.good ok) (subst (λ (z : Stage). StandsAt c.args.store.now z) (sym t.later.stage) st) t.meets)
+    name_fails k ks r c.names.self c.copy_named.new.self first before (g.K.Sink.end c.copy_named.new.sink) c.in-Ok-Some.ns (drop (c.names.at + 1) ks) t c.in-Err-copy_named.fault
+    (c.in-Err-copy_named.ensures.does k t.at (t.later.good ok) (subst (λ (z : Stage). StandsAt c.args.store.now z) (sym t.later.stage) st) t.meets)
 
 pub names-smaller : goal.names-smaller
 names-smaller g c =
@@ -53,7 +53,7 @@ names-preserved g c =
       later = omega (arith, i.later, x.later);
       copies = λ k r ok st m.
           let t = subst (λ (z : List NsName). Naming k ks z r c.names.self first.bytes before.bytes) (name_there ks c.names.at c.in-Ok-Some.ns there).0 (i.copies k r ok st m) in
-          name_on k ks r c.names.self c.copy_rest.new.self first before (g.K.Sink.end c.copy_rest.new.sink) c.in-Ok-Some.ns (drop (c.names.at + 1) ks) t
+          name_on k ks r c.names.self c.copy_named.new.self first before (g.K.Sink.end c.copy_named.new.sink) c.in-Ok-Some.ns (drop (c.names.at + 1) ks) t
           (x.does k t.at (t.later.good ok) (subst (λ (z : Stage). StandsAt c.args.store.now z) (sym t.later.stage) st) t.meets);
     }
 
