@@ -1,4 +1,4 @@
-//! The state that a restore makes of an archive that a dump wrote, before it replays. Laws alone: each function does
+//! The state that a restore makes of an archive that a dump wrote, before it replays. A law alone: its function does
 //! nothing, and its caller learns the law.
 #![tactic(auto)]
 

@@ -1,4 +1,4 @@
-//! What a restore replays of an archive that a dump wrote. Laws alone: each function does nothing, and its caller
+//! What a restore replays of an archive that a dump wrote. A law alone: its function does nothing, and its caller
 //! learns the law.
 #![tactic(auto)]
 

@@ -120,7 +120,7 @@ fn tagged(tag: u8, bytes: &[u8]) -> SmallBytes
     SmallBytes::inline(&key[..bytes.len() + 1])
 }
 
-// The key of an `_id` of a number or an identifier. It takes no memory.
+// The key of an `_id` of a number, but for a decimal, or of an identifier. It takes no memory.
 fn short_key(id: &Value) -> Option<SmallBytes>
     ensures { IfSome result (λ key. key ≡ key_of id.now) }
 {

@@ -1,4 +1,4 @@
-//! What an archive that a dump wrote holds. Laws alone: each function does nothing, and its caller learns the law.
+//! What an archive that a dump wrote holds. A law alone: its function does nothing, and its caller learns the law.
 #![tactic(auto)]
 
 mod laws;

@@ -1,2 +1,2 @@
-//! What a dump writes: the bytes of its steps. Definitions, and laws of them.
+//! What a dump writes: the bytes of its steps. Definitions alone.
 #![tactic(auto)]

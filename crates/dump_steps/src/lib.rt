@@ -1,4 +1,4 @@
-//! What the steps of a dump are, and that their pieces may follow one another in an archive. Laws alone: each function
+//! What the steps of a dump are, and that their pieces may follow one another in an archive. A law alone: its function
 //! does nothing, and its caller learns the law.
 #![tactic(auto)]
 

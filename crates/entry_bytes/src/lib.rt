@@ -1,4 +1,4 @@
-//! The bytes of what is recorded and kept are decoded again. Laws alone: each function does nothing, and its caller
+//! The bytes of what is recorded and kept are decoded again. A law alone: its function does nothing, and its caller
 //! learns the law.
 #![tactic(auto)]
 

@@ -1,5 +1,5 @@
-//! The metadata of collections that are kept is read again. Laws alone: the function does nothing, and its caller
-//! learns the laws.
+//! The metadata of collections that are kept is read again. A law alone: its function does nothing, and its caller
+//! learns the law.
 #![tactic(auto)]
 
 mod laws;

@@ -1,5 +1,5 @@
-//! A committed transaction stands whole in each state of a source and of a restore, or not at all. Laws alone: each
-//! function does nothing, and its caller learns the law.
+//! A committed transaction stands whole in each state of a source, or not at all. Laws alone: each function does
+//! nothing, and its caller learns the law.
 #![tactic(auto)]
 
 mod laws;
