@@ -320,8 +320,10 @@ fn in_any_order(end: usize, body: &[u8], left: usize) -> Option<usize>
     }
 }
 
-// Names that aren't above all before them are looked for name by name, as often as this.
-const FEW: u32 = 1;
+// How many names that aren't above all before them are looked for name by name: in a small body more than in others.
+fn searches(size: usize) -> u32 {
+    if size <= SMALL { 8 } else { 1 }
+}
 
 /// The first name that stands before it too, by its place, among the elements before the last `left` bytes.
 ///
@@ -336,7 +338,7 @@ pub fn first_repeat(end: usize, body: &[u8], left: usize) -> Option<usize>
 {
     let mut rest = body;
     let mut top = &body[..0];
-    let mut tries = FEW;
+    let mut tries = searches(body.len());
     'names: while let Some((tag, bytes)) = rest.split_first() {
         if bytes.len() < left {
             return None;

@@ -17,7 +17,7 @@ use bson_check::parts::{
 use bson_check::passing::after;
 use bson_check::repeats::{first_fault, first_repeat};
 use bson_check::{BsonFault, BsonKind, DecodeFault};
-use bson_value::{Bytes, CText, Doc, Fields, List, Text, Value, type_byte};
+use bson_value::{BoxedCText, BoxedText, Bytes, CText, Doc, Fields, List, Text, Value, type_byte};
 use std::alloc::Global;
 
 fn bad(kind: BsonKind, at: usize) -> DecodeFault
@@ -75,13 +75,13 @@ fn value(
         type_byte::NULL => Ok((Value::Null, bytes)),
         type_byte::REGEX => {
             let pair = regex(end, bytes)?;
-            let pattern = CText::of_text(alloc, pair.first)?;
-            let options = CText::of_text(alloc, pair.second)?;
+            let pattern = BoxedCText::of_text(alloc, pair.first)?;
+            let options = BoxedCText::of_text(alloc, pair.second)?;
             Ok((Value::Regex { pattern, options }, pair.after))
         }
         type_byte::DB_POINTER => {
             let (ns, id, rest) = pointer(end, bytes)?;
-            let ns = Text::of(alloc, ns)?;
+            let ns = BoxedText::of(alloc, ns)?;
             Ok((Value::DbPointer { ns, id: twelve(id) }, rest))
         }
         type_byte::CODE => {
@@ -122,7 +122,7 @@ fn scoped(
     levels: usize,
     end: usize,
     bytes: &[u8],
-) -> Result<(Text, Doc, &[u8]), DecodeFault>
+) -> Result<(BoxedText, Doc, &[u8]), DecodeFault>
     requires { length bytes.now ≤ end }
     ensures gives { Gives (λ x. ((x.0, x.1), x.2.now)) result (scoped_at levels end bytes.now) }
     ensures fits { IfOk result (λ x. length x.2.now ≤ length bytes.now) }
@@ -133,7 +133,7 @@ fn scoped(
     if open.scope.last != 0 {
         return Err(bad(BsonKind::Length, open.scope.stop));
     }
-    let code = Text::of(alloc, open.code)?;
+    let code = BoxedText::of(alloc, open.code)?;
     Ok((code, doc, open.scope.after))
 }
 

@@ -7,7 +7,7 @@ ghost use Rattle.bson_encode.specs.Comparing.{step, behind, at_end};
 ghost use Rattle.bson_encode.specs.Key.{key_of};
 
 use crate::writing::type_of;
-use bson_value::{CText, Doc, Text, Value};
+use bson_value::{BoxedCText, BoxedText, CText, Doc, Text, Value};
 use itoa::Buffer;
 use std::cmp::Ordering;
 
@@ -90,6 +90,18 @@ fn name<'a>(so_far: Comparison<'a>, name: &CText) -> Comparison<'a>
     next(now, 0)
 }
 
+fn boxed_text<'a>(so_far: Comparison<'a>, boxed: &BoxedText) -> Comparison<'a>
+    ensures { (result.order, result.rest.now) ≡ behind so_far.entry.order so_far.entry.rest.now (text_bytes boxed.now) }
+{
+    text(so_far, boxed.text())
+}
+
+fn boxed_name<'a>(so_far: Comparison<'a>, boxed: &BoxedCText) -> Comparison<'a>
+    ensures { (result.order, result.rest.now) ≡ behind so_far.entry.order so_far.entry.rest.now (boxed.now ++ 0 ∷ []) }
+{
+    name(so_far, boxed.text())
+}
+
 #[cycle(key)]
 fn value<'a>(so_far: Comparison<'a>, value: &Value) -> Comparison<'a>
     ensures { (result.order, result.rest.now) ≡ behind so_far.entry.order so_far.entry.rest.now (spelled value.now) }
@@ -108,8 +120,8 @@ fn value<'a>(so_far: Comparison<'a>, value: &Value) -> Comparison<'a>
         Value::Bool(b) => next(so_far, if *b { 1 } else { 0 }),
         Value::Date(n) => piece(so_far, &n.to_le_bytes()),
         Value::Null => so_far,
-        Value::Regex { pattern, options } => name(name(so_far, pattern), options),
-        Value::DbPointer { ns, id } => piece(text(so_far, ns), id),
+        Value::Regex { pattern, options } => boxed_name(boxed_name(so_far, pattern), options),
+        Value::DbPointer { ns, id } => piece(boxed_text(so_far, ns), id),
         Value::Code(t) => text(so_far, t),
         Value::Symbol(t) => text(so_far, t),
         Value::ScopedCode { code, scope } => scoped(so_far, value.spelling_len(), code, scope),
@@ -126,11 +138,11 @@ fn value<'a>(so_far: Comparison<'a>, value: &Value) -> Comparison<'a>
 }
 
 #[cycle(key)]
-fn scoped<'a>(so_far: Comparison<'a>, len: usize, code: &Text, scope: &Doc) -> Comparison<'a>
+fn scoped<'a>(so_far: Comparison<'a>, len: usize, code: &BoxedText, scope: &Doc) -> Comparison<'a>
     requires { len ≡ length (counted (text_bytes code.now ++ document_text scope.now)) % 2 ^ 64 }
     ensures { (result.order, result.rest.now) ≡ behind so_far.entry.order so_far.entry.rest.now (counted (text_bytes code.now ++ document_text scope.now)) }
 {
-    let now = text(count(so_far, len), code);
+    let now = boxed_text(count(so_far, len), code);
     document(now, scope)
 }
 

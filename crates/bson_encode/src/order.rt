@@ -9,7 +9,7 @@ ghost use Rattle.bson_encode.specs.Key.{key_of};
 ghost use Rattle.bson_encode.specs.Leading.{Leads, LeadsIfShort};
 
 use crate::writing::{name_of, type_of};
-use bson_value::{CText, Doc, Text, Ts, Value};
+use bson_value::{BoxedCText, BoxedText, CText, Doc, Text, Ts, Value};
 use std::cmp::Ordering;
 
 /// Compares the keys of two `_id`s by their bytes, where neither value has 2^31 bytes of spelling or
@@ -70,6 +70,12 @@ fn text(a: &Text, b: &Text) -> Ordering
     run(a, b)
 }
 
+fn boxed_text(a: &BoxedText, b: &BoxedText) -> Ordering
+    ensures { LeadsIfShort (text_bytes a.now) (text_bytes b.now) result }
+{
+    text(a.text(), b.text())
+}
+
 fn name(a: &CText, b: &CText) -> Ordering
     ensures { Leads (a.now ++ 0 ∷ []) (b.now ++ 0 ∷ []) result }
 {
@@ -90,21 +96,21 @@ fn binary(first: u8, a: &[u8], second: u8, b: &[u8]) -> Ordering
     run(a, b)
 }
 
-fn regex(a: &CText, s: &CText, b: &CText, t: &CText) -> Ordering
+fn regex(a: &BoxedCText, s: &BoxedCText, b: &BoxedCText, t: &BoxedCText) -> Ordering
     ensures { Leads ((a.now ++ 0 ∷ []) ++ (s.now ++ 0 ∷ [])) ((b.now ++ 0 ∷ []) ++ (t.now ++ 0 ∷ [])) result }
 {
-    let order = name(a, b);
+    let order = name(a.text(), b.text());
     if order.is_ne() {
         return order;
     }
-    name(s, t)
+    name(s.text(), t.text())
 }
 
-fn pointer(a: &Text, s: &[u8], b: &Text, t: &[u8]) -> Ordering
+fn pointer(a: &BoxedText, s: &[u8], b: &BoxedText, t: &[u8]) -> Ordering
     requires { length s.now ≡ length t.now }
     ensures { LeadsIfShort (text_bytes a.now ++ s.now) (text_bytes b.now ++ t.now) result }
 {
-    let order = text(a, b);
+    let order = boxed_text(a, b);
     if order.is_ne() {
         return order;
     }
@@ -223,7 +229,7 @@ fn value(a: &Value, b: &Value) -> Ordering
 }
 
 #[cycle(keys)]
-fn scoped(first: usize, a: &Text, s: &Doc, second: usize, b: &Text, t: &Doc) -> Ordering
+fn scoped(first: usize, a: &BoxedText, s: &Doc, second: usize, b: &BoxedText, t: &Doc) -> Ordering
     requires first { first ≡ length (counted (text_bytes a.now ++ document_text s.now)) % 2 ^ 64 }
     requires second { second ≡ length (counted (text_bytes b.now ++ document_text t.now)) % 2 ^ 64 }
     ensures { LeadsIfShort (counted (text_bytes a.now ++ document_text s.now)) (counted (text_bytes b.now ++ document_text t.now)) result }
@@ -236,10 +242,10 @@ fn scoped(first: usize, a: &Text, s: &Doc, second: usize, b: &Text, t: &Doc) -> 
 }
 
 #[cycle(keys)]
-fn code(a: &Text, s: &Doc, b: &Text, t: &Doc) -> Ordering
+fn code(a: &BoxedText, s: &Doc, b: &BoxedText, t: &Doc) -> Ordering
     ensures { LeadsIfShort (text_bytes a.now ++ document_text s.now) (text_bytes b.now ++ document_text t.now) result }
 {
-    let order = text(a, b);
+    let order = boxed_text(a, b);
     if order.is_ne() {
         return order;
     }

@@ -128,16 +128,16 @@ fn put_value(out: &mut Vec<u8>, value: &Value) -> Result<(), AllocError>
         }
         Value::Null => Ok(()),
         Value::Regex { pattern, options } => {
-            put_name(out, pattern)?;
-            put_name(out, options)
+            put_name(out, pattern.text())?;
+            put_name(out, options.text())
         }
         Value::DbPointer { ns, id } => {
-            put_text(out, ns)?;
+            put_text(out, ns.text())?;
             put_run(out, id)
         }
         Value::Code(text) => put_text(out, text),
         Value::Symbol(text) => put_text(out, text),
-        Value::ScopedCode { code, scope } => put_scoped(out, code, scope),
+        Value::ScopedCode { code, scope } => put_scoped(out, code.text(), scope),
         Value::Int(n) => {
             out.extend_from_slice(&n.to_le_bytes())?;
             Ok(())

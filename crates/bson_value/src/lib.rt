@@ -15,7 +15,7 @@ pub mod type_byte;
 mod value;
 mod well_formed;
 
-pub use containers::{Bytes, CText, List, Text};
+pub use containers::{BoxedCText, BoxedText, Bytes, CText, List, Text};
 pub use fields::Fields;
 pub use index::index_of;
 pub use laws::alike_looks_the_same;

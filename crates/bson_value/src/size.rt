@@ -28,6 +28,7 @@ fn without(room: usize, bytes: usize, more: usize) -> Option<usize>
 }
 
 // How many digits a number has.
+/// The number of decimal digits of a number.
 pub fn digit_count(n: usize) -> usize
     ensures digits { result ≡ length (decimal n) }
     ensures small { result ≤ n + 1 }

@@ -2,7 +2,7 @@
 ghost use Rattle.std.specs.Prelude.{◌≡◌, ◌↔◌, IsTrue, IfOk};
 
 use crate::fields::Fields;
-use containers::{Bytes, CText, List, Text};
+use containers::{BoxedCText, BoxedText, Bytes, CText, List, Text};
 use std::alloc::{AllocError, Global};
 
 /// A document: names and values, with distinct names at every level.
@@ -28,24 +28,36 @@ impl Ts {
     }
 }
 
-/// A value of BSON.
+/// A value of BSON. Rare texts have memory of their own, so that a value takes 40 bytes.
 #[derive(Drop)]
 pub enum Value {
     Double([u8; 8]),
     Str(Text),
     Object(Doc),
     Array(List<Value>),
-    Binary { subtype: u8, bytes: Bytes },
+    Binary {
+        subtype: u8,
+        bytes: Bytes,
+    },
     Undefined,
     Oid([u8; 12]),
     Bool(bool),
     Date(i64),
     Null,
-    Regex { pattern: CText, options: CText },
-    DbPointer { ns: Text, id: [u8; 12] },
+    Regex {
+        pattern: BoxedCText,
+        options: BoxedCText,
+    },
+    DbPointer {
+        ns: BoxedText,
+        id: [u8; 12],
+    },
     Code(Text),
     Symbol(Text),
-    ScopedCode { code: Text, scope: Doc },
+    ScopedCode {
+        code: BoxedText,
+        scope: Doc,
+    },
     Int(i32),
     Stamp(Ts),
     Long(i64),

@@ -54,15 +54,15 @@ impl Value {
                 let _n = *n;
             }
             Value::Regex { pattern, options } => {
-                name(pattern);
-                name(options);
+                name(pattern.text());
+                name(options.text());
             }
             Value::DbPointer { ns, id } => {
-                text(ns);
+                text(ns.text());
                 are_bytes(id);
             }
             Value::ScopedCode { code, scope } => {
-                text(code);
+                text(code.text());
                 scope.is_well_formed();
             }
             Value::Int(n) => {

@@ -1,6 +1,7 @@
 //! Texts, bytes and lists, which contracts see as lists.
 #![tactic(auto)]
 
+mod boxed;
 mod inline;
 mod list;
 mod order;
@@ -8,6 +9,7 @@ mod small_bytes;
 mod small_string;
 mod text;
 
+pub use boxed::{BoxedCText, BoxedText};
 pub use list::List;
 pub use small_bytes::SmallBytes;
 pub use text::{Bytes, CText, Text};

@@ -65,30 +65,35 @@ impl<T> List<T> {
         self.items
     }
 
+    /// The elements, lent.
     pub fn as_slice(&self) -> &[T]
         ensures { result.now ≡ self.now }
     {
         self.items.as_slice()
     }
 
+    /// The number of elements.
     pub fn len(&self) -> usize
         ensures { result ≡ length self.now }
     {
         self.items.len()
     }
 
+    /// Whether there is no element.
     pub fn is_empty(&self) -> bool
         ensures { IsTrue result ↔ (self.now ≡ []) }
     {
         self.items.is_empty()
     }
 
+    /// The element at a position that counts from 0, where there is one.
     pub fn get(&self, at: usize) -> Option<&T>
         ensures { option_copied result ≡ slice_get self.now at }
     {
         self.items.get(at)
     }
 
+    /// The element at a position, to be changed.
     pub fn item_mut(&mut self, at: usize) -> &mut T
         requires { at < length self.old }
         ensures* writes_back { sem 𝓛 (Lends (list_row T.row) T.row self.entry result (slice_set self.old at)) }
@@ -115,6 +120,7 @@ impl<T: Drop> List<T> {
         self.items.truncate(len)
     }
 
+    /// Puts an element behind all others.
     pub fn push(&mut self, item: T) -> Result<(), AllocError>
         ensures ok { OnOk result (self.new ≡ self.old ++ item ∷ []) }
         ensures err { OnErr result (self.new ≡ self.old) }

@@ -56,6 +56,7 @@ impl SmallBytes {
         }
     }
 
+    /// The bytes, lent.
     pub fn as_slice(&self) -> &[u8]
         ensures { result.now ≡ self.now }
     {

@@ -1,5 +1,4 @@
-//! What is written of an accepted update is read again. Laws alone: each function does nothing, and its caller learns the
-//! law.
+//! What is written of an accepted update is read again. A law alone: the function does nothing, and its caller learns the law.
 #![tactic(auto)]
 
 mod laws;

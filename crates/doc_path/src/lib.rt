@@ -1,4 +1,4 @@
-//! Places in documents, what touches do at them, and when two documents agree for a list of touches.
+//! Places in documents, and what touches do at them.
 #![tactic(auto)]
 
 mod elements;

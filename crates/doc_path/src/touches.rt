@@ -30,6 +30,7 @@ impl Model for Place {
 }
 
 impl Place {
+    /// A place at the top of a document.
     pub fn new(alloc: Global, first: Part) -> Result<Place, AllocError>
         ensures { IfOk result (λ p. p ≡ first ∷ []) }
     {
@@ -46,6 +47,7 @@ impl Place {
         self.parts.push(part)
     }
 
+    /// Its parts from the top down, at least one.
     pub fn parts(&self) -> &List<Part>
         ensures parts { result.now ≡ self.now }
         ensures some { self.now ≡ [] → ⊥ }

@@ -269,7 +269,7 @@ abbrev pub is_true : Option Value → Bool
 is_true None = false
 is_true (Some v) = is_true_in (out-Value v)
 
--- a part of a transaction, or one that is prepared, is passed over
+-- a part of a transaction, or one that is prepared: an entry of another kind, which no replay acts on or reads further
 abbrev pub is_partial : Fields → Bool
 is_partial fs = is_true (lookup (codes "prepare") fs) || is_true (lookup (codes "partialTxn") fs)
 

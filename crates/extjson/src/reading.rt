@@ -9,7 +9,7 @@ use crate::numbers::{is_whole, to_int, to_long};
 use crate::parts::{both, string, without_zero};
 use crate::wrapped::wrapped;
 use crate::wrapper::Wrapper;
-use bson_value::{CText, Doc, Fields, List, Text, Value};
+use bson_value::{BoxedText, CText, Doc, Fields, List, Value};
 use containers::Text as JText;
 use json_tree::Tree;
 use std::alloc::Global;
@@ -85,7 +85,7 @@ fn scoped(alloc: Global, entries: &[(JText, Tree)]) -> Result<Value, ExtFault>
     ensures { Gives (λ v. v) result (scoped_value (parts_of entries.now)) }
 {
     let (code, scope) = both("$code", "$scope", entries)?;
-    let code = Text::of(alloc, string(code)?)?;
+    let code = BoxedText::of(alloc, string(code)?)?;
     let scope = document(alloc, scope)?;
     Ok(Value::ScopedCode { code, scope })
 }

@@ -10,7 +10,7 @@ use crate::parts::{
 };
 use crate::wrapper::Wrapper;
 use crate::writing::{MINUS_ONE, ONE};
-use bson_value::{Text, Ts, Value};
+use bson_value::{BoxedCText, BoxedText, Text, Ts, Value};
 use json_tree::Tree;
 use std::alloc::Global;
 
@@ -120,8 +120,8 @@ fn regex(alloc: Global, tree: &Tree) -> Result<Value, ExtFault>
     ensures { Gives (λ v. v) result (regex_value tree.now) }
 {
     let (pattern, options) = both("pattern", "options", members(tree)?)?;
-    let pattern = without_zero(alloc, string(pattern)?)?;
-    let options = without_zero(alloc, string(options)?)?;
+    let pattern = BoxedCText::new(alloc, without_zero(alloc, string(pattern)?)?)?;
+    let options = BoxedCText::new(alloc, without_zero(alloc, string(options)?)?)?;
     Ok(Value::Regex { pattern, options })
 }
 
@@ -130,7 +130,7 @@ fn pointer(alloc: Global, tree: &Tree) -> Result<Value, ExtFault>
     ensures { Gives (λ v. v) result (pointer_value tree.now) }
 {
     let (ns, oid) = both("$ref", "$id", members(tree)?)?;
-    let ns = Text::of(alloc, string(ns)?)?;
+    let ns = BoxedText::of(alloc, string(ns)?)?;
     let id = id(only("$oid", members(oid)?)?)?;
     Ok(Value::DbPointer { ns, id })
 }

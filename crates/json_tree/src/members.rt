@@ -64,6 +64,7 @@ impl<T> Members<T> {
         self.entries.as_slice()
     }
 
+    /// The name at a place that counts from 0.
     pub fn name(&self, at: usize) -> &str
         requires { at < length self.now }
         ensures { option_map (λ e. e.0) (slice_get self.now at) ≡ Some result.now }
@@ -71,6 +72,7 @@ impl<T> Members<T> {
         self.entries[at].0.as_str()
     }
 
+    /// The value at a place that counts from 0.
     pub fn value(&self, at: usize) -> &T
         requires { at < length self.now }
         ensures { option_map (λ e. e.1) (slice_get self.now at) ≡ Some result.now }
@@ -97,6 +99,7 @@ impl<T> Members<T> {
         self.find(name)
     }
 
+    /// What this name names. It is looked for from the front.
     pub fn get(&self, name: &str) -> Option<&T>
         ensures { option_copied result ≡ lookup name.now self.now }
     {

@@ -32,6 +32,7 @@ impl Number {
         Number { text }
     }
 
+    /// Its text, as it was written.
     pub fn as_str(&self) -> &str
         ensures text { result.now ≡ self.now }
         ensures number { IsNumber self.now }

@@ -1,5 +1,5 @@
 //! Worked paths and places.
-use bson_value::{CText, Doc, List, Text, Value};
+use bson_value::{BoxedText, CText, Doc, List, Value};
 use doc_path::{
     Change, Form, Part, Path, PathFault, Place, at, change_document, resize, set, unset,
 };
@@ -78,7 +78,7 @@ fn worked(alloc: Global) -> Result<Doc, Fail> {
     let inner = one(alloc, "b", Value::Int(1))?;
     doc.set(name(alloc, "o")?, Value::Object(inner))?;
     let scope = one(alloc, "b", Value::Int(3))?;
-    let code = Text::new(alloc);
+    let code = BoxedText::of(alloc, "")?;
     doc.set(name(alloc, "s")?, Value::ScopedCode { code, scope })?;
     Ok(doc)
 }

@@ -88,42 +88,49 @@ impl Log {
         }
     }
 
+    /// The clock, in seconds since 1970.
     pub fn clock(&self) -> u32
         ensures { result ≡ self.now.clock }
     {
         self.clock
     }
 
+    /// Sets the clock.
     pub fn set_clock(&mut self, secs: u32)
         ensures { self.new ≡ record self.old { clock = secs } }
     {
         self.clock = secs;
     }
 
+    /// The form in which updates are recorded.
     pub fn form(&self) -> Form
         ensures { result ≡ self.now.form }
     {
         self.form
     }
 
+    /// Updates are recorded in this form from now on.
     pub fn set_form(&mut self, form: Form)
         ensures { self.new ≡ record self.old { form = form } }
     {
         self.form = form;
     }
 
+    /// The timestamp of the newest entry.
     pub fn newest(&self) -> Ts
         ensures { result ≡ self.now.newest }
     {
         self.newest
     }
 
+    /// The timestamp of the newest rename.
     pub fn renamed(&self) -> Option<Ts>
         ensures { result ≡ self.now.renamed }
     {
         self.renamed
     }
 
+    /// The entries that are kept.
     pub fn oplog(&self) -> &CappedOplog
         ensures { result.now ≡ self.now.ring }
     {

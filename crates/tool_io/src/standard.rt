@@ -21,6 +21,7 @@ impl<R> Model for StdSource<R> {
 }
 
 impl<R> StdSource<R> {
+    /// A source at which no fault has happened yet.
     pub fn new(inner: R) -> StdSource<R>
         ensures { result ≡ record { inner = inner; faults = 0 } }
     {
@@ -59,6 +60,7 @@ impl<W> Model for StdSink<W> {
 }
 
 impl<W> StdSink<W> {
+    /// A sink at which no fault has happened yet.
     pub fn new(inner: W) -> StdSink<W>
         ensures { result ≡ record { inner = inner; faults = 0 } }
     {

@@ -66,18 +66,18 @@ scoped-returns t c =
     let scope = document_text c.args.scope.now in
     let first : State = (c.count.result.order, c.count.result.rest.now) in
     then o r (count_bytes (length (code ++ scope) + 4)) (code ++ scope) first _ (c.count.ensures ∙ ap (behind o r) (counted_count (code ++ scope) c.args.len c.requires))
-    (then first.0 first.1 code scope (c.text-now.result.order, c.text-now.result.rest.now) _ c.text-now.ensures c.document.ensures)
+    (then first.0 first.1 code scope (c.boxed_text-now.result.order, c.boxed_text-now.result.rest.now) _ c.boxed_text-now.ensures c.document.ensures)
 
 pub value-returns-in-Regex : goal.value-returns-in-Regex
 value-returns-in-Regex t c =
     let o = c.args.so_far.order in
     let r = c.args.so_far.rest.now in
-    then o r (c.in-Regex.pattern ++ 0 ∷ []) (c.in-Regex.options ++ 0 ∷ []) (c.name.result.order, c.name.result.rest.now) _ c.name.ensures c.name-in-Regex.ensures
+    then o r (c.in-Regex.pattern ++ 0 ∷ []) (c.in-Regex.options ++ 0 ∷ []) (c.boxed_name.result.order, c.boxed_name.result.rest.now) _ c.boxed_name.ensures c.boxed_name-in-Regex.ensures
     ∙ ap (behind o r) (sym (ap (λ (v : Value). spelled v) c.in-Regex.is ∙ spelled_regex c.in-Regex.pattern c.in-Regex.options))
 
 pub value-returns-in-DbPointer : goal.value-returns-in-DbPointer
 value-returns-in-DbPointer t c =
     let o = c.args.so_far.order in
     let r = c.args.so_far.rest.now in
-    then o r (text_bytes c.in-DbPointer.ns) c.in-DbPointer.id (c.text-in-DbPointer.result.order, c.text-in-DbPointer.result.rest.now) _ c.text-in-DbPointer.ensures c.piece-in-DbPointer.ensures
+    then o r (text_bytes c.in-DbPointer.ns) c.in-DbPointer.id (c.boxed_text.result.order, c.boxed_text.result.rest.now) _ c.boxed_text.ensures c.piece-in-DbPointer.ensures
     ∙ ap (behind o r) (sym (ap (λ (v : Value). spelled v) c.in-DbPointer.is ∙ spelled_pointer c.in-DbPointer.ns c.in-DbPointer.id))

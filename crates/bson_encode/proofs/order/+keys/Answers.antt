@@ -81,8 +81,8 @@ code-returns t c = λ p q.
     let y = text_bytes c.args.b.now in
     let r = document_text c.args.s.now in
     let s = document_text c.args.t.now in
-    leads_behind x y r s c.text-order.result c.document.result (sym c.is_ne.ensures ∙ c.if-is_ne.false)
-    (c.text-order.ensures (omega (arith, p, length-append x r)) (omega (arith, q, length-append y s)))
+    leads_behind x y r s c.boxed_text-order.result c.document.result (sym c.is_ne.ensures ∙ c.if-is_ne.false)
+    (c.boxed_text-order.ensures (omega (arith, p, length-append x r)) (omega (arith, q, length-append y s)))
     (c.document.ensures (omega (arith, p, length-append x r)) (omega (arith, q, length-append y s)))
 
 pub value-returns-in-Regex-b : goal.value-returns-in-Regex-b
