@@ -1,7 +1,6 @@
 -- Documents under the numbers of their keys are those of the collection, in the order of their keys.
 use Rattle.std.proofs.Common.{◌≡◌, ℕ, List, [], ◌∷◌, map as each, Bool, true, false, cond, refl, sym, ap, ◌∙◌, subst, Option, Some, None, inl, inr}
-use Rattle.std.specs.Prelude.{⊤, ◌⊎◌, ◌&&◌, option_map, is_some, T}
-use Rattle.std.specs.Ordering.{is_eq}
+use Rattle.std.specs.Prelude.{⊤, ◌&&◌, option_map, is_some, T}
 use Rattle.std.specs.FinMap as map
 use Rattle.std.specs.FinMap.Entries.{below_all}
 use Rattle.std.specs.declared.cmp.Ordering.{Ordering}
@@ -10,7 +9,7 @@ use Rattle.std.proofs.lemmas.Bool.{cases_Bool}
 use Rattle.bson_value.specs.declared.value.Value.{Value, Object}
 use Rattle.json_tree.specs.declared.tree.Tree.{Tree}
 use Rattle.state_model.specs.Keys.{Key, key_cmp, same_key}
-use Rattle.state_model.proofs.Keys.{key_total, key_is, key_refl, key_turn}
+use Rattle.state_model.proofs.Keys.{key_is, key_refl, key_turn}
 use Rattle.state_model.proofs.Maps.{key_map_same}
 use Rattle.coll_state.specs.declared.collection.Numbered.{Numbered}
 use Rattle.coll_state.specs.declared.collection.Record.{Record}

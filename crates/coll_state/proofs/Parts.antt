@@ -18,9 +18,9 @@ use Rattle.coll_state.specs.declared.collection.Record.{Record}
 use Rattle.coll_state.specs.Rows.{Document, Row, Table, row_of, Rising, last_no, scan}
 use Rattle.coll_state.specs.Changes.{put_row, drop_row, next_after, put_table, drop_table}
 use Rattle.coll_state.specs.Definitions.{definition_name}
-use Rattle.sorted_list.specs.Order.{AllAbove, Behind, IsOrdered, found, place, put_in, set_in, take_out, IsFound, IsGap}
+use Rattle.sorted_list.specs.Order.{AllAbove, Behind, IsOrdered, found, place, put_in, put_new, set_in, take_out, IsFound, IsGap}
 use Rattle.coll_state.specs.Stock.{AllAfter, Rise, beside, key_of_number, number_of, row_in, rows_in, named, indexes_in, Covers, AreParts}
-use Rattle.sorted_list.proofs.Order.{put_at, set_at, take_at}
+use Rattle.sorted_list.proofs.Order.{put_at, set_at, take_at, new_there}
 use Rattle.coll_state.proofs.Keyed.{rise_ordered, found_put, found_set, found_take, rise_put, rise_set, rise_take}
 use Rattle.coll_state.proofs.RowLists.{no_in, row_found, row_absent, kept_no, fresh_no, row_put_else, row_drop_else, row_drop_here, rising_put, rising_drop, last_put, last_drop}
 
@@ -37,26 +37,27 @@ numbers_ordered ns k r = rise_ordered key_cmp key_total key_anti key_of_number n
 pub names_ordered : (ds : List Tree) (n : Key) → Rise key_cmp definition_name ds → IsOrdered (at_name n) ds
 names_ordered ds n r = rise_ordered key_cmp key_total key_anti definition_name ds n r
 
--- what the numbers tell of a key
-pub number_some : (ns : List Numbered) (rs : List Record) (k : Key) (e : Numbered) → Covers ns (rows_in rs) → Some e ≡ found (at_key k) ns → Some e.no ≡ no_in (row_of (rows_in rs) k)
-number_some ns rs k e c f = ap (option_map (λ (z : Numbered). z.no)) f ∙ c k
-
-pub number_none : (ns : List Numbered) (rs : List Record) (k : Key) → Covers ns (rows_in rs) → None ≡ found (at_key k) ns → None ≡ no_in (row_of (rows_in rs) k)
-number_none ns rs k c f = ap (option_map (λ (z : Numbered). z.no)) f ∙ c k
-
--- that of an element that was looked for
+-- what the numbers tell of a key: the number of an element that was looked for
 pub number_is : (ns : List Numbered) (rs : List Record) (k : Key) (n : Option ℕ) (o : Option Numbered) → Covers ns (rows_in rs) → n ≡ option_map (λ (z : Numbered). z.no) o → o ≡ found (at_key k) ns → n ≡ no_in (row_of (rows_in rs) k)
 number_is ns rs k n o c e f = e ∙ (ap (option_map (λ (z : Numbered). z.no)) f ∙ c k)
 
 pub absent_of : (rs : List Row) (k : Key) → None ≡ no_in (row_of rs k) → row_of rs k ≡ None
 absent_of rs k e = row_absent rs k (row_of rs k) refl (sym e)
 
-no_number : (ns : List Numbered) (k : Key) → number_of ns k ≡ None → found (at_key k) ns ≡ None
+pub no_number : (ns : List Numbered) (k : Key) → number_of ns k ≡ None → found (at_key k) ns ≡ None
 no_number ns k e = by (found (at_key k) ns) refl
   where
     by : (o : Option Numbered) → found (at_key k) ns ≡ o → found (at_key k) ns ≡ None
     by None p = p
     by (Some z) p = let f : None ≡ Some z.no = sym e ∙ ap (option_map (λ (z : Numbered). z.no)) p in cc
+
+-- numbers among which a key has one already
+pub numbers_kept : (ns : List Numbered) (k : Key) (n : ℕ) (y : Numbered) → Some n ≡ number_of ns k → put_new (at_key k) y ns ≡ ns
+numbers_kept ns k n y e = by (found (at_key k) ns) refl
+  where
+    by : (o : Option Numbered) → found (at_key k) ns ≡ o → put_new (at_key k) y ns ≡ ns
+    by None p = let f : Some n ≡ None = e ∙ ap (option_map (λ (z : Numbered). z.no)) p in cc
+    by (Some z) p = sym (new_there (at_key k) ns z y (sym p))
 
 -- a document in the place of another
 pub next_kept : (next : ℕ) (o : Option Row) → o ≢ None → next_after next o ≡ next

@@ -274,24 +274,11 @@ impl Collection {
         ensures table { self.new.table ≡ put_table (key_in (id_of document)) document self.old.table }
         ensures room { self.old.room ≡ self.new.room }
     {
-        self.records
-            .set(Record { no, document }, |record| record.no.cmp(&no));
-    }
-
-    // The document behind all others.
-    fn add(&mut self, key: SmallBytes, document: Kept)
-        requires key { key ≡ key_in (id_of document) }
-        requires absent { row_of self.old.table.rows key ≡ None }
-        requires room { 1 ≤ self.old.room }
-        requires number { self.old.table.next + 1 < 2 ^ 128 }
-        ensures table { self.new.table ≡ put_table key document self.old.table }
-        ensures room { self.old.room ≤ self.new.room + 1 }
-    {
-        let no = self.next;
-        self.numbers
-            .put(Numbered { key, no }, |a, b| a.key.cmp(&b.key));
-        self.records.push(Record { no, document });
-        self.next = no + 1;
+        self.records.set_near(
+            rank_of(no),
+            Record { no, document },
+            |record| record.no.cmp(&no),
+        );
     }
 
     /// The document in the place of the one of its key, or behind all others.
@@ -302,9 +289,18 @@ impl Collection {
         ensures table { self.new.table ≡ put_table key document self.old.table }
         ensures room { self.old.room ≤ self.new.room + 1 }
     {
-        match self.number_of_key(&key) {
+        let no = self.next;
+        let there = self.numbers.put_new(
+            Numbered { key, no },
+            |a, b| a.key.cmp(&b.key),
+            |numbered| numbered.no,
+        );
+        match there {
             Some(no) => self.replace(no, document),
-            None => self.add(key, document),
+            None => {
+                self.records.push(Record { no, document });
+                self.next = no + 1;
+            }
         }
     }
 

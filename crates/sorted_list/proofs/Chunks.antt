@@ -1,11 +1,11 @@
 -- Searches and edits of a list in chunks, by those of the one chunk to which a search leads.
-use Rattle.std.proofs.Common.{◌≡◌, ℕ, zero, suc, ◌+◌, ◌<◌, ◌≤◌, List, [], ◌∷◌, ◌++◌, length, Bool, true, false, refl, sym, ap, ◌∙◌, subst, arith, Option, Some, None, set, append_assoc}
-use Rattle.std.specs.Prelude.{⊤, if◌then◌else◌, slice_index_or}
+use Rattle.std.proofs.Common.{◌≡◌, List, [], ◌∷◌, ◌++◌, Bool, true, false, refl, ap, arith, Option, Some, None}
+use Rattle.std.specs.Prelude.{⊤, if◌then◌else◌}
 use Rattle.std.specs.Ordering.{is_eq, is_lt}
 use Rattle.std.specs.declared.cmp.Ordering.{Ordering}
 use Rattle.std.specs.declared.cmp.Ordering.TheVariants.{Less, Equal, Greater}
 use Rattle.sorted_list.specs.Order.{AllAbove, Behind, IsOrdered, found, from, put_in, set_in, take_out}
-use Rattle.sorted_list.specs.Chunks.{joined, AreRoomy, last_of, is_below, ends_below, seat}
+use Rattle.sorted_list.specs.Chunks.{joined, AreRoomy, ends_below}
 
 module _ {T : Type 0} (ord : T → Ordering) where
   abbrev pub AllBelow : List T → Type 0

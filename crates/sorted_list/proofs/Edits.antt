@@ -1,11 +1,11 @@
 -- Edits of the chunk to which a search leads, as edits of the whole list.
-use Rattle.std.proofs.Common.{◌≡◌, ℕ, zero, suc, ◌+◌, ◌-◌, ◌<◌, ◌≤◌, ◌==◌, List, [], ◌∷◌, ◌++◌, length, take, drop, Bool, true, false, refl, sym, ap, ◌∙◌, subst, arith, Option, Some, None, inl, inr, append_assoc}
+use Rattle.std.proofs.Common.{◌≡◌, ℕ, zero, suc, ◌-◌, ◌<◌, ◌≤◌, ◌==◌, List, [], ◌∷◌, ◌++◌, length, drop, Bool, true, false, refl, sym, ap, ◌∙◌, subst, arith, Option, Some, None, append_assoc}
 use Rattle.std.proofs.lemmas.List.{append-nil}
-use Rattle.std.specs.Prelude.{⊤, ◌⊎◌, if◌then◌else◌, slice_index_or, slice_get, slice_set}
+use Rattle.std.specs.Prelude.{if◌then◌else◌, slice_index_or, slice_get, slice_set}
 use Rattle.std.specs.List.{insert, remove}
 use Rattle.std.specs.declared.cmp.Ordering.{Ordering}
 use Rattle.sorted_list.specs.Order.{IsOrdered, found, from, put_in, set_in, take_out}
-use Rattle.sorted_list.specs.Chunks.{joined, chunk_len, AreRoomy, AreEmpty, ends_below, seat}
+use Rattle.sorted_list.specs.Chunks.{joined, chunk_len, AreRoomy, AreEmpty, ends_below, seat, near}
 use Rattle.sorted_list.proofs.Chunks.{ordered-front, ordered-rest, all_below, found_behind, from_behind, put_behind, set_behind, take_behind, found_front, from_front, put_front, set_front, take_front}
 
 pub positive : (n : ℕ) → (n == 0) ≡ false → 0 < n
@@ -118,14 +118,6 @@ module _ {T : Type 0} where
   empty_last [] d r = r.0
   empty_last (c ∷ cs) d r = empty_last cs d r.1
 
-  -- the seat, or the last chunk
-  abbrev pub Chosen : List (List T) → ℕ → ℕ → Type 0
-  Chosen cs s n = ((s < length cs) × (n ≡ s)) ⊎ ((length cs ≤ s) × (n ≡ s - 1))
-
-  pub chosen_within : (cs : List (List T)) (s n : ℕ) → 0 < length cs → s ≤ length cs → Chosen cs s n → n < length cs
-  chosen_within cs s n some bound (inl h) = omega (arith, h.0, h.1)
-  chosen_within cs s n some bound (inr h) = omega (arith, h.0, h.1)
-
 module _ {T : Type 0} (ord : T → Ordering) where
   pub ordered_at : (cs : List (List T)) (n : ℕ) (d : List T) → slice_get cs n ≡ Some d → IsOrdered ord (joined cs) → IsOrdered ord d
   ordered_at [] n d e o = absurd (none_some d e)
@@ -214,13 +206,7 @@ module _ {T : Type 0} (ord : T → Ordering) where
 
   -- ---- an element is put in: at the seat, or in the last chunk
 
-  pub near : List (List T) → ℕ
-  near [] = 0
-  near (c ∷ []) = 0
-  near (c ∷ (d ∷ ds)) = if ends_below ord c then suc (near (d ∷ ds)) else 0
-
-  pub near_seat : (cs : List (List T)) → seat ord cs < length cs → seat ord cs ≡ near cs
-  unfolding near
+  pub near_seat : (cs : List (List T)) → seat ord cs < length cs → seat ord cs ≡ near ord cs
   near_seat [] l = absurd (omega arith)
   near_seat (c ∷ []) l = by (ends_below ord c) l
     where
@@ -229,28 +215,26 @@ module _ {T : Type 0} (ord : T → Ordering) where
       by false l = refl
   near_seat (c ∷ (d ∷ ds)) l = by (near_seat (d ∷ ds)) (ends_below ord c) l
     where
-      by : (seat ord (d ∷ ds) < length (d ∷ ds) → seat ord (d ∷ ds) ≡ near (d ∷ ds)) → (b : Bool) → (if b then suc (seat ord (d ∷ ds)) else 0) < length (c ∷ (d ∷ ds)) → (if b then suc (seat ord (d ∷ ds)) else 0) ≡ (if b then suc (near (d ∷ ds)) else 0)
+      by : (seat ord (d ∷ ds) < length (d ∷ ds) → seat ord (d ∷ ds) ≡ near ord (d ∷ ds)) → (b : Bool) → (if b then suc (seat ord (d ∷ ds)) else 0) < length (c ∷ (d ∷ ds)) → (if b then suc (seat ord (d ∷ ds)) else 0) ≡ (if b then suc (near ord (d ∷ ds)) else 0)
       by k true l = ap suc (k (omega arith))
       by k false l = refl
 
-  pub near_end : (cs : List (List T)) → 0 < length cs → seat ord cs ≡ length cs → seat ord cs ≡ suc (near cs)
-  unfolding near
+  pub near_end : (cs : List (List T)) → 0 < length cs → seat ord cs ≡ length cs → seat ord cs ≡ suc (near ord cs)
   near_end [] s e = absurd (omega arith)
   near_end (c ∷ []) s e = e
   near_end (c ∷ (d ∷ ds)) s e = by (near_end (d ∷ ds) (omega arith)) (ends_below ord c) e
     where
-      by : (seat ord (d ∷ ds) ≡ length (d ∷ ds) → seat ord (d ∷ ds) ≡ suc (near (d ∷ ds))) → (b : Bool) → (if b then suc (seat ord (d ∷ ds)) else 0) ≡ length (c ∷ (d ∷ ds)) → (if b then suc (seat ord (d ∷ ds)) else 0) ≡ suc (if b then suc (near (d ∷ ds)) else 0)
+      by : (seat ord (d ∷ ds) ≡ length (d ∷ ds) → seat ord (d ∷ ds) ≡ suc (near ord (d ∷ ds))) → (b : Bool) → (if b then suc (seat ord (d ∷ ds)) else 0) ≡ length (c ∷ (d ∷ ds)) → (if b then suc (seat ord (d ∷ ds)) else 0) ≡ suc (if b then suc (near ord (d ∷ ds)) else 0)
       by k true e = ap suc (k (omega (arith, e)))
       by k false e = absurd (omega (arith, e))
 
-  pub put_near : (cs : List (List T)) (d : List T) (y : T) → AreRoomy cs → IsOrdered ord (joined cs) → slice_get cs (near cs) ≡ Some d → joined (slice_set cs (near cs) (put_in ord y d)) ≡ put_in ord y (joined cs)
-  unfolding near
+  pub put_near : (cs : List (List T)) (d : List T) (y : T) → AreRoomy cs → IsOrdered ord (joined cs) → slice_get cs (near ord cs) ≡ Some d → joined (slice_set cs (near ord cs) (put_in ord y d)) ≡ put_in ord y (joined cs)
   put_near [] d y r o e = absurd (none_some d e)
   put_near ([] ∷ cs) d y r o e = absurd (omega (arith, r.0))
   put_near ((x ∷ xs) ∷ []) d y r o e = ap (λ (l : List T). put_in ord y l ++ []) (sym (some_is (x ∷ xs) d e)) ∙ (append-nil (put_in ord y (x ∷ xs)) ∙ ap (put_in ord y) (sym (append-nil (x ∷ xs))))
   put_near ((x ∷ xs) ∷ (c ∷ cs)) d y r o e = by (put_near (c ∷ cs) d y r.2 (ordered-rest ord (x ∷ xs) (joined (c ∷ cs)) o)) (ends_below ord (x ∷ xs)) refl e
     where
-      by : (slice_get (c ∷ cs) (near (c ∷ cs)) ≡ Some d → joined (slice_set (c ∷ cs) (near (c ∷ cs)) (put_in ord y d)) ≡ put_in ord y (joined (c ∷ cs))) → (b : Bool) → ends_below ord (x ∷ xs) ≡ b → slice_get ((x ∷ xs) ∷ (c ∷ cs)) (if b then suc (near (c ∷ cs)) else 0) ≡ Some d → joined (slice_set ((x ∷ xs) ∷ (c ∷ cs)) (if b then suc (near (c ∷ cs)) else 0) (put_in ord y d)) ≡ put_in ord y ((x ∷ xs) ++ joined (c ∷ cs))
+      by : (slice_get (c ∷ cs) (near ord (c ∷ cs)) ≡ Some d → joined (slice_set (c ∷ cs) (near ord (c ∷ cs)) (put_in ord y d)) ≡ put_in ord y (joined (c ∷ cs))) → (b : Bool) → ends_below ord (x ∷ xs) ≡ b → slice_get ((x ∷ xs) ∷ (c ∷ cs)) (if b then suc (near ord (c ∷ cs)) else 0) ≡ Some d → joined (slice_set ((x ∷ xs) ∷ (c ∷ cs)) (if b then suc (near ord (c ∷ cs)) else 0) (put_in ord y d)) ≡ put_in ord y ((x ∷ xs) ++ joined (c ∷ cs))
       by k true h g = ap (λ (l : List T). (x ∷ xs) ++ l) (k g) ∙ sym (put_behind ord (x ∷ xs) (joined (c ∷ cs)) y (all_below ord (x ∷ xs) (ordered-front ord (x ∷ xs) (joined (c ∷ cs)) o) h))
       by k false h g = ap (λ (l : List T). put_in ord y l ++ joined (c ∷ cs)) (sym (some_is (x ∷ xs) d g)) ∙ sym (put_front ord x xs (joined (c ∷ cs)) y h)
 
@@ -307,11 +291,27 @@ module _ {T : Type 0} (ord : T → Ordering) where
   take_gone cs n zs e r o s l =
       sym e ∙ (take_none cs r (subst (IsOrdered ord) (sym e) o) (got_seat cs n None (at_seat cs n zs e r o s) (get_past cs n l)) ∙ ap (take_out ord) e)
 
-  pub put_done : (cs : List (List T)) (n : ℕ) (zs d c : List T) (y : T) → joined cs ≡ zs → AreRoomy cs → IsOrdered ord zs → n ≡ near cs → slice_get cs n ≡ Some d → (IsOrdered ord d → c ≡ put_in ord y d) → joined (slice_set cs n c) ≡ put_in ord y zs
+  pub put_done : (cs : List (List T)) (n : ℕ) (zs d c : List T) (y : T) → joined cs ≡ zs → AreRoomy cs → IsOrdered ord zs → n ≡ near ord cs → slice_get cs n ≡ Some d → (IsOrdered ord d → c ≡ put_in ord y d) → joined (slice_set cs n c) ≡ put_in ord y zs
   put_done cs n zs d c y e r o q g k =
       let p = subst (IsOrdered ord) (sym e) o in
       (λ i. joined (slice_set cs (q i) (k (ordered_at cs n d g p) i))) ∙ (put_near cs d y r p (subst (λ (m : ℕ). slice_get cs m ≡ Some d) q g) ∙ ap (put_in ord y) e)
 
-  pub chosen_near : (cs : List (List T)) (s n : ℕ) → 0 < length cs → s ≤ length cs → s ≡ seat ord cs → Chosen cs s n → n ≡ near cs
-  chosen_near cs s n some bound e (inl h) = h.1 ∙ (e ∙ near_seat cs (subst (λ (m : ℕ). m < length cs) e h.0))
-  chosen_near cs s n some bound e (inr h) = omega (arith, h.0, h.1, e, near_end cs some (omega (arith, h.0, bound, e)))
+  pub found_near : (cs : List (List T)) (d : List T) → AreRoomy cs → IsOrdered ord (joined cs) → slice_get cs (near ord cs) ≡ Some d → found ord (joined cs) ≡ found ord d
+  found_near [] d r o e = absurd (none_some d e)
+  found_near ([] ∷ cs) d r o e = absurd (omega (arith, r.0))
+  found_near ((x ∷ xs) ∷ []) d r o e = ap (found ord) (append-nil (x ∷ xs) ∙ some_is (x ∷ xs) d e)
+  found_near ((x ∷ xs) ∷ (c ∷ cs)) d r o e = by (found_near (c ∷ cs) d r.2 (ordered-rest ord (x ∷ xs) (joined (c ∷ cs)) o)) (ends_below ord (x ∷ xs)) refl e
+    where
+      by : (slice_get (c ∷ cs) (near ord (c ∷ cs)) ≡ Some d → found ord (joined (c ∷ cs)) ≡ found ord d) → (b : Bool) → ends_below ord (x ∷ xs) ≡ b → slice_get ((x ∷ xs) ∷ (c ∷ cs)) (if b then suc (near ord (c ∷ cs)) else 0) ≡ Some d → found ord ((x ∷ xs) ++ joined (c ∷ cs)) ≡ found ord d
+      by k true h g = found_behind ord (x ∷ xs) (joined (c ∷ cs)) (all_below ord (x ∷ xs) (ordered-front ord (x ∷ xs) (joined (c ∷ cs)) o) h) ∙ k g
+      by k false h g = found_front ord x xs (joined (c ∷ cs)) o h ∙ ap (found ord) (some_is (x ∷ xs) d g)
+
+  -- what is sought is there where it is in the chunk into which it would go
+  pub near_done : (cs : List (List T)) (n : ℕ) (zs d : List T) (x : Option T) → joined cs ≡ zs → AreRoomy cs → IsOrdered ord zs → n ≡ near ord cs → slice_get cs n ≡ Some d → (IsOrdered ord d → x ≡ found ord d) → x ≡ found ord zs
+  near_done cs n zs d x e r o q g k =
+      let p = subst (IsOrdered ord) (sym e) o in
+      k (ordered_at cs n d g p) ∙ (sym (found_near cs d r p (subst (λ (m : ℕ). slice_get cs m ≡ Some d) q g)) ∙ ap (found ord) e)
+
+  -- the chunk that is chosen
+  pub near_at : (xs cs : List (List T)) (n : ℕ) (zs : List T) → xs ≡ cs → joined cs ≡ zs → AreRoomy cs → IsOrdered ord zs → (AreRoomy xs → IsOrdered ord (joined xs) → n ≡ near ord xs) → n ≡ near ord cs
+  near_at xs cs n zs e is r o h = subst (λ (l : List (List T)). AreRoomy l → IsOrdered ord (joined l) → n ≡ near ord l) e h r (subst (IsOrdered ord) (sym is) o)

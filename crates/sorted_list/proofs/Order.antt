@@ -7,7 +7,7 @@ use Rattle.std.specs.List.Sorted.{IsSearchInRange, IsBinarySearchResult, IsNonDe
 use Rattle.std.specs.Ordering.{is_eq, is_lt, ordering_index}
 use Rattle.std.specs.declared.cmp.Ordering.{Ordering}
 use Rattle.std.specs.declared.cmp.Ordering.TheVariants.{Less, Equal, Greater}
-use Rattle.sorted_list.specs.Order.{AllAbove, Behind, IsOrdered, found, place, from, put_in, set_in, take_out, IsFound, IsGap}
+use Rattle.sorted_list.specs.Order.{AllAbove, Behind, IsOrdered, found, place, from, put_in, put_new, set_in, take_out, IsFound, IsGap}
 
 take_all : {A : Type 0} (xs : List A) → take (length xs) xs ≡ xs
 take_all [] = refl
@@ -144,6 +144,13 @@ module _ {T : Type 0} (ord : T → Ordering) where
       by : (b : Bool) → (if b then Some x else found ord xs) ≡ None → (found ord xs ≡ None → take_out ord xs ≡ xs) → (if b then xs else x ∷ take_out ord xs) ≡ x ∷ xs
       by true g h = absurd (some_not_none x (sym g))
       by false g h = ap (λ (l : List T). x ∷ l) (h g)
+
+  -- an element that is put only where none is
+  pub new_there : (xs : List T) (x y : T) → Some x ≡ found ord xs → xs ≡ put_new ord y xs
+  new_there xs x y f = rw (sym f) refl
+
+  pub new_gone : (xs : List T) (y : T) → None ≡ found ord xs → put_in ord y xs ≡ put_new ord y xs
+  new_gone xs y f = rw (sym f) refl
 
   -- the calls of a sorted list, whose items ys are the vector's
   abbrev Answers : List T → Result ℕ ℕ → Type 0

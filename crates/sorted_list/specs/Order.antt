@@ -1,5 +1,5 @@
 -- Lists whose elements a search orders: those below what is sought, it itself at most once, and those above it.
-use Rattle.std.specs.Prelude.{slice_index_or, slice_get, ⊤, ◌≡◌, ℕ, suc, List, [], ◌∷◌, refl, Option, Some, None, if◌then◌else◌}
+use Rattle.std.specs.Prelude.{slice_index_or, ⊤, ◌≡◌, ℕ, suc, List, [], ◌∷◌, refl, Option, Some, None, is_some, if◌then◌else◌}
 use Rattle.std.specs.Coded.{Coded, code_by, coded×, coded_ℕ, coded_list}
 use Rattle.std.specs.Ordering.{is_eq, is_lt}
 use Rattle.std.specs.declared.cmp.Ordering.{Ordering}
@@ -48,6 +48,10 @@ module _ {T : Type 0} (ord : T → Ordering) where
   put_in y [] = y ∷ []
   put_in y (x ∷ xs) = if is_lt (ord x) then x ∷ put_in y xs else y ∷ (x ∷ xs)
 
+  -- the same where what is sought isn't there
+  abbrev pub put_new : T → List T → List T
+  put_new y xs = if is_some (found xs) then xs else put_in y xs
+
   -- with an element in the place of what is sought
   abbrev pub set_in : T → List T → List T
   set_in y [] = []
@@ -66,7 +70,3 @@ module _ {T : Type 0} (ord : T → Ordering) where
   pub record IsGap (xs : List T) (at : ℕ) : Type 0 where
     pub is_place : place xs ≡ at
     pub is_absent : found xs ≡ None
-
--- an element of a list
-abbrev pub StandsIn : {T : Type 0} → T → List T → Type 0
-StandsIn x xs = (i : ℕ) × (slice_get xs i ≡ Some x)

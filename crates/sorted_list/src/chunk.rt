@@ -1,9 +1,10 @@
 //! A part of a list.
-ghost use Rattle.std.specs.Prelude.{slice_get, ◌≡◌, ◌+◌, ◌<◌, ◌≤◌, [], ◌∷◌, ◌++◌, IfOk, length, insert};
+ghost use Rattle.std.specs.Prelude.{slice_get, slice_set, ◌≡◌, ◌+◌, ◌<◌, ◌≤◌, [], ◌∷◌, ◌++◌, IfOk, MatchResult, length, insert};
 ghost use Rattle.std.specs.Option.{option_copied};
 ghost use Rattle.std.specs.Fn.{ComputesKey};
+ghost use Rattle.std.specs.List.Sorted.{IsSearchInRange};
 ghost use Rattle.std.specs.declared.cmp.Ordering.{Ordering as Order};
-ghost use Rattle.sorted_list.specs.Order.{IsOrdered, found, place, set_in, take_out};
+ghost use Rattle.sorted_list.specs.Order.{IsOrdered, IsFound, IsGap, found, place, set_in, take_out};
 ghost use Rattle.sorted_list.specs.Chunks.{chunk_len, last_of};
 
 use std::alloc::{AllocError, Global};
@@ -95,6 +96,17 @@ impl<T> Chunk<T> {
     }
 }
 
+impl<T> Chunk<T> {
+    /// Where what is sought stands, or how many elements are below it.
+    pub(crate) fn search<F: FnMut(&T) -> Ordering>(&self, order: F) -> Result<usize, usize>
+        requires { F.IsAlwaysCallable order }
+        ensures bound { IsSearchInRange result (length self.now) }
+        ensures place { (ord : T → Order) → ComputesKey F.FnMut ord order → IsOrdered ord self.now → MatchResult result (IsFound ord self.now) (IsGap ord self.now) }
+    {
+        self.items.as_slice().binary_search_by(order)
+    }
+}
+
 impl<T: Drop> Chunk<T> {
     /// The element at this index. Those from there on move behind it.
     pub(crate) fn insert(&mut self, at: usize, item: T)
@@ -132,6 +144,14 @@ impl<T: Drop> Chunk<T> {
             }
             Err(_) => {}
         }
+    }
+
+    /// The element in the place of the one at this index.
+    pub(crate) fn set_at(&mut self, at: usize, item: T)
+        requires { at < length self.old }
+        ensures { self.new ≡ slice_set self.old at item }
+    {
+        let _ = mem::replace(&mut self.items[at], item);
     }
 
     /// Takes out what is sought.

@@ -1,15 +1,16 @@
 //! The list.
-ghost use Rattle.std.specs.Prelude.{◌≡◌, ◌+◌, ◌≤◌, [], ◌∷◌, ◌++◌, OnOk, IfSome, true};
+ghost use Rattle.std.specs.Prelude.{◌≡◌, ◌+◌, ◌≤◌, [], ◌∷◌, ◌++◌, OnOk, IfSome, option_map, true};
 ghost use Rattle.std.specs.Option.{option_copied};
 ghost use Rattle.std.specs.Fn.{ComputesKey};
 ghost use Rattle.std.specs.declared.cmp.Ordering.{Ordering as Order};
+ghost use Rattle.std.specs.declared.cmp.Ordering.TheVariants.{Equal};
 ghost use Rattle.sorted_list.specs.Compare.{Compares};
-ghost use Rattle.sorted_list.specs.Chunks.{HasRoom};
-ghost use Rattle.sorted_list.specs.Order.{IsOrdered, StandsIn, found, from, put_in, set_in, take_out};
+ghost use Rattle.sorted_list.specs.Chunks.{HasRoom, StandsAt};
+ghost use Rattle.sorted_list.specs.Order.{IsOrdered, found, from, put_in, put_new, set_in, take_out};
 
 use crate::chunk::{CHUNK_LEN, Chunk};
-use crate::parting::part;
-use crate::seats::seat;
+use crate::parting::put_at;
+use crate::seats::{chosen, seat};
 use crate::walk::Walk;
 use std::alloc::{AllocError, Global};
 use std::cmp::Ordering;
@@ -21,6 +22,35 @@ fn has_room<T>(chunks: &[Chunk<T>]) -> bool
 {
     match chunks.last() {
         Some(chunk) => chunk.len() < PUSHED_LEN,
+        None => false,
+    }
+}
+
+// The element at this place of this chunk.
+fn item_at<T>(chunks: &[Chunk<T>], chunk: usize, place: usize) -> Option<&T>
+    ensures { IfSome result (λ x. StandsAt x.now chunks.now chunk place) }
+{
+    match chunks.get(chunk)?.get(place) {
+        Some(item) => Some(item),
+        None => None,
+    }
+}
+
+// Whether what is sought stands at this place of this chunk.
+fn is_at<T, F: Fn(&T) -> Ordering>(
+    chunks: &[Chunk<T>],
+    chunk: usize,
+    place: usize,
+    order: &F,
+) -> bool
+    requires { F.IsAlwaysCallable order.now }
+    ensures { result ≡ true → (x : T) × (StandsAt x chunks.now chunk place × ((ord : T → Order) → ComputesKey F.FnMut ord order.now → ord x ≡ Equal)) }
+{
+    match item_at(chunks, chunk, place) {
+        Some(item) => match order(item) {
+            Ordering::Equal => true,
+            _ => false,
+        },
         None => false,
     }
 }
@@ -69,22 +99,13 @@ impl<T> SortedList<T> {
         }
     }
 
-    // The element at this place of this chunk.
-    fn item_at(&self, chunk: usize, place: usize) -> Option<&T>
-        ensures { IfSome result (λ x. StandsIn x.now self.now.items) }
-    {
-        match self.chunks.as_slice().get(chunk)?.get(place) {
-            Some(item) => Some(item),
-            None => None,
-        }
-    }
-
     /// The element that is sought. The one of this rank in a list to which elements were only pushed is looked at first.
     pub fn find_near<F: Fn(&T) -> Ordering>(&self, rank: usize, order: F) -> Option<&T>
         requires { F.IsAlwaysCallable order }
         ensures { (ord : T → Order) → ComputesKey F.FnMut ord order → IsOrdered ord self.now.items → option_copied result ≡ found ord self.now.items }
     {
-        if let Some(item) = self.item_at(rank / PUSHED_LEN, rank % PUSHED_LEN) {
+        let chunks = self.chunks.as_slice();
+        if let Some(item) = item_at(chunks, rank / PUSHED_LEN, rank % PUSHED_LEN) {
             if let Ordering::Equal = order(item) {
                 return Some(item);
             }
@@ -159,6 +180,22 @@ impl<T: Drop> SortedList<T> {
         }
     }
 
+    /// The element in the place of what is sought, where that is there. The one of this rank in a list to which elements
+    /// were only pushed is looked at first.
+    pub fn set_near<F: Fn(&T) -> Ordering>(&mut self, rank: usize, item: T, order: F)
+        requires { F.IsAlwaysCallable order }
+        ensures items { (ord : T → Order) → ComputesKey F.FnMut ord order → IsOrdered ord self.old.items → self.new.items ≡ set_in ord item self.old.items }
+        ensures room { self.new.room ≡ self.old.room }
+    {
+        let chunk = rank / PUSHED_LEN;
+        let place = rank % PUSHED_LEN;
+        if is_at(self.chunks.as_slice(), chunk, place, &order) {
+            self.chunks[chunk].set_at(place, item);
+        } else {
+            self.set(item, order);
+        }
+    }
+
     // The element behind all others, in a chunk of its own.
     fn begin(&mut self, item: T)
         requires room { 1 ≤ self.old.room }
@@ -190,16 +227,40 @@ impl<T: Drop> SortedList<T> {
             requires { F.IsAlwaysCallable order }
             ensures { (cmp : T → T → Order) → Compares F.FnMut cmp order → result ≡ cmp other.now item }
         { order(other, &item) };
-        let seat = seat(self.chunks.as_slice(), &beside);
-        let at = if seat < self.chunks.len() {
-            seat
-        } else {
-            seat - 1
-        };
+        let at = chosen(self.chunks.as_slice(), &beside);
         let place = self.chunks[at].place(beside);
-        self.chunks[at].insert(place, item);
-        if self.chunks[at].len() == CHUNK_LEN {
-            part(&mut self.chunks, &mut self.spares, at);
+        put_at(&mut self.chunks, &mut self.spares, at, place, item);
+    }
+
+    /// The same where no element is its equal by this order. Where one is, nothing changes, and what `look` sees in it is given.
+    pub fn put_new<R, F: Fn(&T, &T) -> Ordering, G: Fn(&T) -> R>(
+        &mut self,
+        item: T,
+        order: F,
+        look: G,
+    ) -> Option<R>
+        requires room { 1 ≤ self.old.room }
+        requires call { F.IsAlwaysCallable order }
+        requires look { G.IsAlwaysCallable look }
+        ensures there { (cmp : T → T → Order) → (key : T → R) → Compares F.FnMut cmp order → ComputesKey G.FnMut key look → IsOrdered (λ x. cmp x item) self.old.items → result ≡ option_map key (found (λ x. cmp x item) self.old.items) }
+        ensures items { (cmp : T → T → Order) → Compares F.FnMut cmp order → IsOrdered (λ x. cmp x item) self.old.items → self.new.items ≡ put_new (λ x. cmp x item) item self.old.items }
+        ensures room { self.old.room ≤ self.new.room + 1 }
+    {
+        if self.chunks.is_empty() {
+            self.begin(item);
+            return None;
+        }
+        let beside = |other: &T| -> Ordering
+            requires { F.IsAlwaysCallable order }
+            ensures { (cmp : T → T → Order) → Compares F.FnMut cmp order → result ≡ cmp other.now item }
+        { order(other, &item) };
+        let at = chosen(self.chunks.as_slice(), &beside);
+        match self.chunks[at].search(beside) {
+            Ok(place) => Some(look(&self.chunks[at].as_slice()[place])),
+            Err(place) => {
+                put_at(&mut self.chunks, &mut self.spares, at, place, item);
+                None
+            }
         }
     }
 

@@ -1,9 +1,9 @@
 //! The chunk to which a search leads.
-ghost use Rattle.std.specs.Prelude.{◌≡◌, ◌≤◌, length};
+ghost use Rattle.std.specs.Prelude.{◌≡◌, ◌<◌, ◌≤◌, length};
 ghost use Rattle.std.specs.Fn.{ComputesKey};
 ghost use Rattle.std.specs.declared.cmp.Ordering.{Ordering as Order};
 ghost use Rattle.sorted_list.specs.Order.{IsOrdered};
-ghost use Rattle.sorted_list.specs.Chunks.{joined, AreRoomy, last_of, ends_below, is_below, side, seat};
+ghost use Rattle.sorted_list.specs.Chunks.{joined, AreRoomy, last_of, ends_below, is_below, side, seat, near};
 
 use crate::chunk::Chunk;
 use std::cmp::Ordering;
@@ -32,4 +32,15 @@ pub(crate) fn seat<T, F: Fn(&T) -> Ordering>(chunks: &[Chunk<T>], order: &F) -> 
         Ok(at) => at,
         Err(at) => at,
     }
+}
+
+/// The chunk into which an element goes: the one to which a search leads, or the last.
+pub(crate) fn chosen<T, F: Fn(&T) -> Ordering>(chunks: &[Chunk<T>], order: &F) -> usize
+    requires some { 0 < length chunks.now }
+    requires call { F.IsAlwaysCallable order.now }
+    ensures within { result < length chunks.now }
+    ensures near { (ord : T → Order) → ComputesKey F.FnMut ord order.now → AreRoomy chunks.now → IsOrdered ord (joined chunks.now) → result ≡ near ord chunks.now }
+{
+    let at = seat(chunks, order);
+    if at < chunks.len() { at } else { at - 1 }
 }

@@ -76,3 +76,34 @@ fn what_is_pushed_stands_last(rt: HostRuntime) -> Result<(), Fail> {
     assert_eq!(rt; steps(Walk::none(), 0, 1), Some(0));
     Ok(())
 }
+
+#[test]
+fn what_is_there_is_not_put_again(rt: HostRuntime) -> Result<(), Fail> {
+    let mut list = filled(rt.alloc())?;
+    list.reserve(2)?;
+    assert_eq!(rt;
+        list.put_new(400, |a, b| a.cmp(b), |number| *number),
+        Some(400)
+    );
+    assert_eq!(rt;
+        list.put_new(COUNT, |a, b| a.cmp(b), |number| *number),
+        None
+    );
+    assert_eq!(rt; steps(list.walk(), 0, 1), Some(1001));
+    Ok(())
+}
+
+#[test]
+fn what_is_replaced_keeps_its_place(rt: HostRuntime) -> Result<(), Fail> {
+    let mut list = SortedList::new(rt.alloc());
+    for i in 0..COUNT {
+        list.reserve(1)?;
+        list.push(i * 2);
+    }
+    for i in 0..COUNT {
+        let rank = usize::try_from(i + i % 3).unwrap_or(0);
+        list.set_near(rank, i * 2 + 1, |number| (number / 2).cmp(&i));
+    }
+    assert_eq!(rt; steps(list.walk(), 1, 2), Some(1000));
+    Ok(())
+}

@@ -1,4 +1,4 @@
-use Rattle.std.proofs.Common.{List, ℕ, suc, ◌+◌, ◌≡◌, [], ◌∷◌, ◌++◌, length, ap, sym, ◌∙◌, subst, arith}
+use Rattle.std.proofs.Common.{List, ℕ, suc, ◌+◌, ◌≡◌, ap, sym, ◌∙◌, subst, arith}
 use Rattle.std.specs.Prelude.{slice_set}
 use Rattle.std.specs.List.{insert}
 use Rattle.sorted_list.specs.Chunks.{AreRoomy, AreEmpty, joined}

@@ -1,4 +1,4 @@
-use Rattle.std.proofs.Common.{ap, ◌∙◌}
+use Rattle.std.proofs.Common.{◌∙◌}
 use Rattle.sorted_list.proofs.Order.{find_ok, find_err}
 use Rattle.sorted_list.proofs.chunk.Chunk.find.Goals as goal
 

@@ -1,4 +1,4 @@
-use Rattle.std.proofs.Common.{List, [], ◌∷◌, ◌++◌, length, ap, sym, ◌∙◌, subst, arith}
+use Rattle.std.proofs.Common.{List, [], ◌∷◌, ◌++◌, length, ap, ◌∙◌, subst, arith}
 use Rattle.sorted_list.specs.Order.{Shelf}
 use Rattle.sorted_list.specs.Chunks.{AreEmpty, joined}
 use Rattle.sorted_list.proofs.Edits.{roomy_push, joined_push, empty_front, empty_last}

@@ -1,8 +1,8 @@
-use Rattle.std.proofs.Common.{◌≡◌, true, ◌++◌, ◌∷◌, ◌-◌, ◌<◌, ◌+◌, [], length, ap, ◌∙◌, subst, arith, length-append}
+use Rattle.std.proofs.Common.{◌≡◌, true, ◌++◌, ◌∷◌, ◌-◌, ◌+◌, [], length, ap, ◌∙◌, subst, arith, length-append}
 use Rattle.std.proofs.lemmas.Grind.{common_steps}
 use Rattle.std.proofs.lemmas.List.{length-set}
 use Rattle.sorted_list.specs.Order.{Shelf}
-use Rattle.sorted_list.specs.Chunks.{HasRoom, chunk_len}
+use Rattle.sorted_list.specs.Chunks.{HasRoom}
 use Rattle.sorted_list.proofs.Edits.{get_at, roomy_set, pushed_joined}
 use Rattle.sorted_list.proofs.Near.{room_last, room_some}
 use Rattle.sorted_list.proofs.list.SortedList.push.Goals as goal

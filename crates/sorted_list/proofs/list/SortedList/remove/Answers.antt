@@ -1,7 +1,7 @@
-use Rattle.std.proofs.Common.{List, ◌≡◌, ◌<◌, [], length, ap, sym, ◌∙◌, subst, arith}
+use Rattle.std.proofs.Common.{◌<◌, length, ap, ◌∙◌, arith}
 use Rattle.std.proofs.lemmas.List.{length-set, nil_from_length}
 use Rattle.sorted_list.specs.Order.{Shelf}
-use Rattle.sorted_list.specs.Chunks.{AreRoomy, joined}
+use Rattle.sorted_list.specs.Chunks.{joined}
 use Rattle.sorted_list.proofs.Edits.{get_at, roomy_at, roomy_set, roomy_removed, removed_joined, set_at_self, seat_is, find_done, find_gone, take_done, take_gone}
 use Rattle.sorted_list.proofs.list.SortedList.remove.Goals as goal
 

@@ -1,4 +1,4 @@
-use Rattle.std.proofs.Common.{List, ◌≡◌, ap, subst, sym, arith}
+use Rattle.std.proofs.Common.{subst, sym, arith}
 use Rattle.sorted_list.specs.Chunks.{AreEmpty}
 use Rattle.sorted_list.proofs.Edits.{empty_push}
 use Rattle.sorted_list.proofs.list.SortedList.reserve.Goals as goal

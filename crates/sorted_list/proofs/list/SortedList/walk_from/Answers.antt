@@ -1,4 +1,4 @@
-use Rattle.std.proofs.Common.{◌≡◌, ◌<◌, ◌+◌, ◌++◌, suc, length, drop, List, sym, ap, ◌∙◌, subst, arith}
+use Rattle.std.proofs.Common.{◌≡◌, ◌<◌, ◌+◌, ◌++◌, suc, length, drop, sym, ap, ◌∙◌, subst, arith}
 use Rattle.sorted_list.specs.Order.{Shelf}
 use Rattle.sorted_list.specs.Chunks.{AreRoomy, joined}
 use Rattle.sorted_list.proofs.Order.{rest_from, drop_place}
