@@ -53,11 +53,11 @@ fn read_drill(alloc: Global, n: u32) -> Result<Schedule, AllocError>
 }
 
 // The archive of a dump that is done, and what the dump reports.
-fn dump_into_memory(alloc: Global, schedule: &Schedule) -> Result<(DumpReport, Buffer), AllocError>
-    requires least { 1 ≤ schedule.now.cap }
-    requires most { schedule.now.cap ≤ 1000000 }
-    requires done { outcome (schedule_in schedule.now) ≡ Done }
-    ensures { IfOk result (λ r. IsReport r.0 (schedule_in schedule.now) × (r.1 ≡ written (schedule_in schedule.now))) }
+fn dump_into_memory(alloc: Global, schedule: Schedule) -> Result<(DumpReport, Buffer), AllocError>
+    requires least { 1 ≤ schedule.cap }
+    requires most { schedule.cap ≤ 1000000 }
+    requires done { outcome (schedule_in schedule) ≡ Done }
+    ensures { IfOk result (λ r. IsReport r.0 (schedule_in schedule) × (r.1 ≡ written (schedule_in schedule))) }
 {
     let mut archive = Buffer::new(alloc);
     match dump(alloc, schedule, &mut archive, &mut Discard) {
@@ -114,10 +114,10 @@ fn list_restored(alloc: Global, archive: &[u8]) -> Result<Buffer, AllocError>
 }
 
 // The store that the commands of a schedule make.
-fn run_source(alloc: Global, schedule: &Schedule) -> Result<Store, AllocError>
-    requires least { 1 ≤ schedule.now.cap }
-    requires most { schedule.now.cap ≤ 1000000 }
-    ensures { IfOk result (λ store. state_of store.rows ≡ before (schedule_in schedule.now) None) }
+fn run_source(alloc: Global, schedule: Schedule) -> Result<Store, AllocError>
+    requires least { 1 ≤ schedule.cap }
+    requires most { schedule.cap ≤ 1000000 }
+    ensures { IfOk result (λ store. state_of store.rows ≡ before (schedule_in schedule) None) }
 {
     match source(alloc, schedule, None, &mut Discard) {
         Ok(store) => Ok(store),
@@ -159,12 +159,14 @@ fn drill_line(alloc: Global, n: u32) -> Result<String, AllocError>
 {
     drills_heal();
     let schedule = read_drill(alloc, n)?;
-    let (report, archive) = dump_into_memory(alloc, &schedule)?;
+    let lines = schedule.lines.len() + 1;
+    let (report, archive) = dump_into_memory(alloc, schedule)?;
     let restored = list_restored(alloc, archive.as_slice())?;
-    let store = run_source(alloc, &schedule)?;
+    let again = read_drill(alloc, n)?;
+    let store = run_source(alloc, again)?;
     let listed = list_store_into_memory(alloc, &store)?;
     let counts = Counts {
-        lines: schedule.lines.len() + 1,
+        lines,
         documents: report.documents,
         entries: report.entries,
         namespaces: namespaces(store.state()),
@@ -174,8 +176,8 @@ fn drill_line(alloc: Global, n: u32) -> Result<String, AllocError>
 }
 
 /// Writes the line of the drill of `n`: its text is dumped in memory, the archive restored with replay, and the listing of that is
-/// compared with that of the source. Nothing is written before all is done. It takes memory for the schedule's lines, some 1.4 KB
-/// each, the store, the restored state, the archive and both listings.
+/// compared with that of the source. Nothing is written before all is done. It takes memory for the lines that are still
+/// to be run, the store, the restored state, the archive and both listings. The schedule is made twice.
 pub fn drill<K: Sink>(alloc: Global, n: u32, output: &mut K) -> Result<(), Fault>
     requires least { 1 ≤ n }
     requires most { n ≤ 100000 }

@@ -1,6 +1,5 @@
 -- How far the lines of a schedule were run.
 use Rattle.std.specs.Prelude.{ℕ, ◌≡◌, List, [], ◌++◌, map as each, Bool, true, false, Option, None, Result, Ok, Err}
-use Rattle.std.specs.Borrow.{Bor}
 use Rattle.std.specs.Io.KnownBytes.{Appends}
 use Rattle.tool_io.specs.Causes.{AppendsFront}
 use Rattle.tool_io.specs.Ends.{End}
@@ -57,9 +56,9 @@ RunsBefore (Ok false) s store rest before after = BeforeStart s store rest befor
 RunsBefore (Err fault) s store rest before after = Breaks fault s before after
 
 -- behind the lines before the start: those that are left
-abbrev pub GetsToStart : Result (Bor (List NumberedLine)) RunFault → Schedule → Stored → Option (List ℕ) → Option (List ℕ) → Type 0
-GetsToStart (Ok rest) s store before after = AtStart s store (each numbered rest.now) before after
-GetsToStart (Err fault) s store before after = Breaks fault s before after
+abbrev pub GetsToStart : Result (Unit {0}) RunFault → Schedule → Stored → List NumberedLine → Option (List ℕ) → Option (List ℕ) → Type 0
+GetsToStart (Ok _) s store rest before after = AtStart s store (each numbered rest) before after
+GetsToStart (Err fault) s store rest before after = Breaks fault s before after
 
 -- the bytes of the output and of the report, where they are known
 pub record Ends : Type 0 where

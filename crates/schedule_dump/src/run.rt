@@ -13,7 +13,7 @@ use crate::step::run_beside;
 use crate::well_formed::lines_are_well_formed;
 use dump_run::{Dump, DumpReport};
 use history_model::{done_is_healed_before, window_stands};
-use schedule_text::{NumberedLine, Schedule};
+use schedule_text::{LineQueue, Schedule};
 use std::alloc::Global;
 use store_core::Store;
 use tool_io::Sink;
@@ -22,14 +22,14 @@ use tool_io::Sink;
 fn dump_beside<K: Sink, R: Sink>(
     alloc: Global,
     mut store: Store,
-    lines: &[NumberedLine],
+    lines: LineQueue,
     output: &mut K,
     report: &mut R,
 ) -> Result<DumpReport, RunFault>
-    ensures comes { (s : Model) → (first : Option (List ℕ)) → AreWellFormedLines s.lines → AtStart s store (each numbered lines.now) first (R.end report.old).bytes → RunOutcome result s (record { output = (K.end output.old).bytes; report = first }) (ends (K.end output.new) (R.end report.new)) }
+    ensures comes { (s : Model) → (first : Option (List ℕ)) → AreWellFormedLines s.lines → AtStart s store (each numbered lines) first (R.end report.old).bytes → RunOutcome result s (record { output = (K.end output.old).bytes; report = first }) (ends (K.end output.new) (R.end report.new)) }
     ensures written { (K.end output.old).faults ≤ (K.end output.new).faults }
     ensures told { (R.end report.old).faults ≤ (R.end report.new).faults }
-    ensures output { (s : Model) → (first : Option (List ℕ)) → AtStart s store (each numbered lines.now) first (R.end report.old).bytes → IsErrOf result RunFault.OutputFault → Rose (K.end output.old).faults (K.end output.new).faults }
+    ensures output { (s : Model) → (first : Option (List ℕ)) → AtStart s store (each numbered lines) first (R.end report.old).bytes → IsErrOf result RunFault.OutputFault → Rose (K.end output.old).faults (K.end output.new).faults }
     ensures report { IsErrOf result RunFault.ReportFault → Rose (R.end report.old).faults (R.end report.new).faults }
 {
     done_is_healed_before();
@@ -49,30 +49,30 @@ fn dump_beside<K: Sink, R: Sink>(
 
 /// Runs the lines of a schedule, and writes the archive of the dump that it makes. The dump starts with the first line `dump`, or
 /// behind the last line where there is none; behind the last line what is left of it is done. Each line that is refused is told
-/// at once. A step of the dump that fails ends the run.
+/// at once, and each line is dropped when it was run. A step of the dump that fails ends the run.
 pub fn dump<K: Sink, R: Sink>(
     alloc: Global,
-    schedule: &Schedule,
+    schedule: Schedule,
     output: &mut K,
     report: &mut R,
 ) -> Result<DumpReport, RunFault>
-    requires least { 1 ≤ schedule.now.cap }
-    requires most { schedule.now.cap ≤ 1000000 }
-    ensures comes { RunOutcome result (schedule_in schedule.now) (ends (K.end output.old) (R.end report.old)) (ends (K.end output.new) (R.end report.new)) }
+    requires least { 1 ≤ schedule.cap }
+    requires most { schedule.cap ≤ 1000000 }
+    ensures comes { RunOutcome result (schedule_in schedule) (ends (K.end output.old) (R.end report.old)) (ends (K.end output.new) (R.end report.new)) }
     ensures written { (K.end output.old).faults ≤ (K.end output.new).faults }
     ensures told { (R.end report.old).faults ≤ (R.end report.new).faults }
     ensures output { IsErrOf result RunFault.OutputFault → Rose (K.end output.old).faults (K.end output.new).faults }
     ensures report { IsErrOf result RunFault.ReportFault → Rose (R.end report.old).faults (R.end report.new).faults }
 {
     window_stands();
-    let lines = schedule.lines.as_slice();
-    lines_are_well_formed(lines);
+    lines_are_well_formed(schedule.lines.as_slice());
     let mut store = match Store::new(alloc, schedule.cap, schedule.bytes) {
         Ok(store) => store,
         Err(_) => return Err(RunFault::NoMemory),
     };
-    match run_up_to_start(alloc, &mut store, lines, report) {
-        Ok(rest) => dump_beside(alloc, store, rest, output, report),
+    let mut lines = LineQueue::of(schedule.lines);
+    match run_up_to_start(alloc, &mut store, &mut lines, report) {
+        Ok(()) => dump_beside(alloc, store, lines, output, report),
         Err(fault) => Err(fault),
     }
 }

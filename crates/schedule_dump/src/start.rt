@@ -10,7 +10,7 @@ use crate::command::{refuse, run_command};
 use crate::fault::RunFault;
 use schedule_model::Line;
 use schedule_report::LineRefusal;
-use schedule_text::NumberedLine;
+use schedule_text::{LineQueue, NumberedLine};
 use std::alloc::Global;
 use store_core::Store;
 use tool_io::Sink;
@@ -41,25 +41,26 @@ fn run_line_before<R: Sink>(
     }
 }
 
-/// Runs the lines up to the one with which the dump starts, and gives those behind it. Where there is none such, the dump starts
+/// Runs the lines up to the one with which the dump starts, and leaves those behind it. Where there is none such, the dump starts
 /// behind the last line. Steps of the dump have no place there.
-pub fn run_up_to_start<'a, R: Sink>(
+pub fn run_up_to_start<R: Sink>(
     alloc: Global,
     store: &mut Store,
-    lines: &'a [NumberedLine],
+    left: &mut LineQueue,
     report: &mut R,
-) -> Result<&'a [NumberedLine], RunFault>
-    ensures gets { (s : Model) → (first : Option (List ℕ)) → BeforeStart s store.old (each numbered lines.now) first (R.end report.old).bytes → GetsToStart result s store.new first (R.end report.new).bytes }
+) -> Result<(), RunFault>
+    ensures gets { (s : Model) → (first : Option (List ℕ)) → BeforeStart s store.old (each numbered left.old) first (R.end report.old).bytes → GetsToStart result s store.new left.new first (R.end report.new).bytes }
     ensures later { (R.end report.old).faults ≤ (R.end report.new).faults }
     ensures failed { IsErrOf result RunFault.ReportFault → Rose (R.end report.old).faults (R.end report.new).faults }
 {
-    let mut left = lines;
-    'lines: while let Some((line, rest)) = left.split_first() {
-        match run_line_before(alloc, store, line, report) {
-            Ok(true) => return Ok(rest),
-            Ok(false) => left = rest,
+    'lines: while let Some(line) = left.next() {
+        let starts = run_line_before(alloc, store, &line, report);
+        drop(line);
+        match starts {
+            Ok(true) => return Ok(()),
+            Ok(false) => {}
             Err(fault) => return Err(fault),
         }
     }
-    Ok(left)
+    Ok(())
 }

@@ -13,7 +13,7 @@ use crate::fault::RunFault;
 use dump_run::{Dump, DumpFault};
 use schedule_model::Line;
 use schedule_report::LineRefusal;
-use schedule_text::NumberedLine;
+use schedule_text::{LineQueue, NumberedLine};
 use std::alloc::Global;
 use store_core::Store;
 use tool_io::Sink;
@@ -80,21 +80,22 @@ pub fn run_beside<K: Sink, R: Sink>(
     alloc: Global,
     store: &mut Store,
     dump: &mut Dump,
-    lines: &[NumberedLine],
+    mut left: LineQueue,
     output: &mut K,
     report: &mut R,
 ) -> Result<(), RunFault>
-    ensures runs { (s : Model) → (first : Ends) → DuringDump s store.old dump.old (each numbered lines.now) first (ends (K.end output.old) (R.end report.old)) → RunsOn result s store.new dump.new [] first (ends (K.end output.new) (R.end report.new)) }
+    ensures runs { (s : Model) → (first : Ends) → DuringDump s store.old dump.old (each numbered left) first (ends (K.end output.old) (R.end report.old)) → RunsOn result s store.new dump.new [] first (ends (K.end output.new) (R.end report.new)) }
     ensures going { dump.old.failed ≡ None → OnOk result (dump.new.failed ≡ None) }
     ensures written { (K.end output.old).faults ≤ (K.end output.new).faults }
     ensures told { (R.end report.old).faults ≤ (R.end report.new).faults }
     ensures output { dump.old.failed ≡ None → IsErrOf result RunFault.OutputFault → Rose (K.end output.old).faults (K.end output.new).faults }
     ensures report { IsErrOf result RunFault.ReportFault → Rose (R.end report.old).faults (R.end report.new).faults }
 {
-    let mut left = lines;
-    'lines: while let Some((line, rest)) = left.split_first() {
-        match run_line(alloc, store, dump, line, output, report) {
-            Ok(()) => left = rest,
+    'lines: while let Some(line) = left.next() {
+        let ran = run_line(alloc, store, dump, &line, output, report);
+        drop(line);
+        match ran {
+            Ok(()) => {}
             Err(fault) => return Err(fault),
         }
     }

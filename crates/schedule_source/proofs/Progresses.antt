@@ -1,5 +1,5 @@
 -- What one line makes of how far the commands were run.
-use Rattle.std.proofs.Common.{◌≡◌, ℕ, suc, length, arith, map as each, List, [], ◌∷◌, ◌++◌, Bool, true, false, refl, sym, ap, ◌∙◌, subst, append_assoc, append-nil, Option, Result, Ok, Err}
+use Rattle.std.proofs.Common.{◌≡◌, ℕ, List, [], ◌∷◌, ◌++◌, Bool, true, false, refl, sym, ap, ◌∙◌, subst, append_assoc, append-nil, Option, Result, Ok, Err}
 use Rattle.std.specs.FinMap as map
 use Rattle.std.specs.Io.KnownBytes.{Appends}
 use Rattle.std.proofs.lemmas.Grind.{flat_map-append}
@@ -17,8 +17,6 @@ use Rattle.history_model.specs.Commands.{applied}
 use Rattle.history_model.specs.Runs.{Schedule, Refusal, NotTaken, first_stage}
 use Rattle.history_model.specs.Histories.{history_of, state, state_from, all_before, Source, source, source_from, source_by, stage_or, or_stop, after_made, after_refusal}
 use Rattle.history_model.proofs.Inductive.{empty_state}
-use Rattle.schedule_text.specs.declared.schedule.NumberedLine.{NumberedLine}
-use Rattle.schedule_report.specs.Schedules.{numbered}
 use Rattle.schedule_report.specs.Lines.{refusal_line, refusals_text}
 use Rattle.store_core.specs.declared.fault.StoreFault.{StoreFault}
 use Rattle.store_core.specs.declared.fault.StoreFault.TheVariants as faults
@@ -183,10 +181,3 @@ all_run l s store lines a b e w =
 -- an error: some front of it is told
 pub stops_told : (l : Option Ts) (s : Schedule) (store : Stored) (lines : List (ℕ × Line)) (a b c : Option (List ℕ)) → (w : Advanced l s store lines a b) → Stops l s w.told b c → AppendsFront a c (refusals_text (source l s).refused)
 stops_told l s store lines a b c w v = subst (λ (x : List ℕ). AppendsFront a c x) (sym v.1) (front_next a b c (refusals_text w.told) v.0 w.writes v.2)
-
-pub none_left : (lines : List NumberedLine) → length lines ≡ 0 → each numbered lines ≡ []
-none_left [] e = refl
-none_left (x ∷ xs) e = absurd (by (length xs) e)
-  where
-    by : (n : ℕ) → suc n ≡ 0 → ⊥
-    by n f = omega arith

@@ -14,7 +14,7 @@ use bson_value::Ts;
 use history_model::source_is_before;
 use schedule_model::{Command, Line, Refused};
 use schedule_report::{LineRefusal, write_refusal};
-use schedule_text::{NumberedLine, Schedule};
+use schedule_text::{LineQueue, NumberedLine, Schedule};
 use std::alloc::{AllocError, Global};
 use store_core::{Store, StoreFault};
 use tool_io::{Fault, Sink};
@@ -66,29 +66,31 @@ fn run_line<R: Sink>(
 
 /// The store that the commands of a schedule make up to a limit, in which each entry is earlier than it: the run stops at the
 /// first command that would record one that isn't, and makes of an insert into a missing collection the creation alone where that
-/// is earlier. Lines of the dump are passed over. Each line that is refused up to there is told at once.
+/// is earlier. Lines of the dump are passed over. Each line that is refused up to there is told at once, and each line is dropped
+/// when it was run.
 pub fn source<R: Sink>(
     alloc: Global,
-    schedule: &Schedule,
+    schedule: Schedule,
     limit: Option<Ts>,
     report: &mut R,
 ) -> Result<Store, Fault>
-    requires least { 1 ≤ schedule.now.cap }
-    requires most { schedule.now.cap ≤ 1000000 }
-    ensures state { IfOk result (λ store. state_of store.rows ≡ before (schedule_in schedule.now) limit) }
-    ensures told { OnOk result (Appends (R.end report.old).bytes (R.end report.new).bytes (refusals_text (source limit (schedule_in schedule.now)).refused)) }
-    ensures err { OnErr result (AppendsFront (R.end report.old).bytes (R.end report.new).bytes (refusals_text (source limit (schedule_in schedule.now)).refused)) }
+    requires least { 1 ≤ schedule.cap }
+    requires most { schedule.cap ≤ 1000000 }
+    ensures state { IfOk result (λ store. state_of store.rows ≡ before (schedule_in schedule) limit) }
+    ensures told { OnOk result (Appends (R.end report.old).bytes (R.end report.new).bytes (refusals_text (source limit (schedule_in schedule)).refused)) }
+    ensures err { OnErr result (AppendsFront (R.end report.old).bytes (R.end report.new).bytes (refusals_text (source limit (schedule_in schedule)).refused)) }
     ensures later { (R.end report.old).faults ≤ (R.end report.new).faults }
     ensures failed { IsErrOf result Fault.Failed → Rose (R.end report.old).faults (R.end report.new).faults }
 {
     source_is_before();
     let mut store = Store::new(alloc, schedule.cap, schedule.bytes)?;
-    let mut left = schedule.lines.as_slice();
-    'lines: while let Some((line, rest)) = left.split_first() {
-        if !run_line(alloc, &mut store, line, limit, report)? {
+    let mut left = LineQueue::of(schedule.lines);
+    'lines: while let Some(line) = left.next() {
+        let ran = run_line(alloc, &mut store, &line, limit, report);
+        drop(line);
+        if !ran? {
             return Ok(store);
         }
-        left = rest;
     }
     Ok(store)
 }

@@ -14,13 +14,13 @@ use tool_io::{Fault, Sink, Source};
 // Runs a schedule, writes the archive of its dump, and tells what the dump came to.
 fn dump_schedule<K: Sink, R: Sink>(
     alloc: Global,
-    schedule: &Schedule,
+    schedule: Schedule,
     output: &mut K,
     report: &mut R,
 ) -> Status
-    requires least { 1 ≤ schedule.now.cap }
-    requires most { schedule.now.cap ≤ 1000000 }
-    ensures { ScheduleSays (schedule_in schedule.now) result
+    requires least { 1 ≤ schedule.cap }
+    requires most { schedule.cap ≤ 1000000 }
+    ensures { ScheduleSays (schedule_in schedule) result
         (turn (K.end output.old) (K.end output.new))
         (turn (R.end report.old) (R.end report.new)) }
 {
@@ -52,7 +52,7 @@ pub fn dump_source<S: Source, K: Sink, R: Sink>(
         (turn (R.end report.old) (R.end report.new)) }
 {
     match read_schedule(alloc, input) {
-        Ok(schedule) => dump_schedule(alloc, &schedule, output, report),
+        Ok(schedule) => dump_schedule(alloc, schedule, output, report),
         Err(InputFault::Bad { line, kind }) => Status::BadSchedule { line, kind },
         Err(InputFault::ReadFault) => Status::ReadFault,
         Err(InputFault::NoMemory) => Status::NoMemory,

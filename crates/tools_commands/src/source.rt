@@ -16,13 +16,13 @@ use tools_words::SourceOrder;
 fn list_schedule<K: Sink, R: Sink>(
     alloc: Global,
     order: SourceOrder,
-    schedule: &Schedule,
+    schedule: Schedule,
     output: &mut K,
     report: &mut R,
 ) -> Status
-    requires least { 1 ≤ schedule.now.cap }
-    requires most { schedule.now.cap ≤ 1000000 }
-    ensures { ScheduleSays order schedule.now result
+    requires least { 1 ≤ schedule.cap }
+    requires most { schedule.cap ≤ 1000000 }
+    ensures { ScheduleSays order schedule result
         (turn (K.end output.old) (K.end output.new))
         (turn (R.end report.old) (R.end report.new)) }
 {
@@ -53,7 +53,7 @@ pub fn list_source<S: Source, K: Sink, R: Sink>(
         (turn (R.end report.old) (R.end report.new)) }
 {
     match read_schedule(alloc, input) {
-        Ok(schedule) => list_schedule(alloc, order, &schedule, output, report),
+        Ok(schedule) => list_schedule(alloc, order, schedule, output, report),
         Err(InputFault::Bad { line, kind }) => Status::BadSchedule { line, kind },
         Err(InputFault::ReadFault) => Status::ReadFault,
         Err(InputFault::NoMemory) => Status::NoMemory,

@@ -20,33 +20,33 @@ waits s store lines xs a is e stay f at =
 
 pub returns-in-Ok-run_up_to_start-clause-comes : goal.returns-in-Ok-run_up_to_start-clause-comes
 returns-in-Ok-run_up_to_start-clause-comes g c =
-    let s = schedule_in c.args.schedule.now in
+    let s = schedule_in c.args.schedule in
     let a = (g.R.Sink.end c.args.report.now).bytes in
-    let f = formed c.args.schedule.now.lines c.as_slice-lines.result.now c.as_slice-lines.ensures c.lines_are_well_formed.ensures in
-    let w = waits s c.in-Ok.store c.args.schedule.now.lines c.as_slice-lines.result.now a refl c.as_slice-lines.ensures c.window_stands.ensures.reached f c.in-Ok.ensures in
+    let f = formed c.args.schedule.lines c.as_slice.result.now c.as_slice.ensures c.lines_are_well_formed.ensures in
+    let w = waits s c.in-Ok.store c.args.schedule.lines c.of-lines.result a refl c.of-lines.ensures c.window_stands.ensures.reached f c.in-Ok.ensures in
     c.dump_beside.ensures.comes s a f (c.in-Ok-run_up_to_start.ensures.gets s a w)
 
 pub returns-in-Ok-run_up_to_start-clause-output : goal.returns-in-Ok-run_up_to_start-clause-output
 returns-in-Ok-run_up_to_start-clause-output g c =
-    let s = schedule_in c.args.schedule.now in
+    let s = schedule_in c.args.schedule in
     let a = (g.R.Sink.end c.args.report.now).bytes in
-    let f = formed c.args.schedule.now.lines c.as_slice-lines.result.now c.as_slice-lines.ensures c.lines_are_well_formed.ensures in
-    let w = waits s c.in-Ok.store c.args.schedule.now.lines c.as_slice-lines.result.now a refl c.as_slice-lines.ensures c.window_stands.ensures.reached f c.in-Ok.ensures in
+    let f = formed c.args.schedule.lines c.as_slice.result.now c.as_slice.ensures c.lines_are_well_formed.ensures in
+    let w = waits s c.in-Ok.store c.args.schedule.lines c.of-lines.result a refl c.of-lines.ensures c.window_stands.ensures.reached f c.in-Ok.ensures in
     c.dump_beside.ensures.output s a (c.in-Ok-run_up_to_start.ensures.gets s a w)
 
 pub returns-in-Err-run_up_to_start-clause-comes : goal.returns-in-Err-run_up_to_start-clause-comes
 returns-in-Err-run_up_to_start-clause-comes g c =
-    let s = schedule_in c.args.schedule.now in
+    let s = schedule_in c.args.schedule in
     let a = (g.R.Sink.end c.args.report.now).bytes in
-    let f = formed c.args.schedule.now.lines c.as_slice-lines.result.now c.as_slice-lines.ensures c.lines_are_well_formed.ensures in
-    let w = waits s c.in-Ok.store c.args.schedule.now.lines c.as_slice-lines.result.now a refl c.as_slice-lines.ensures c.window_stands.ensures.reached f c.in-Ok.ensures in
+    let f = formed c.args.schedule.lines c.as_slice.result.now c.as_slice.ensures c.lines_are_well_formed.ensures in
+    let w = waits s c.in-Ok.store c.args.schedule.lines c.of-lines.result a refl c.of-lines.ensures c.window_stands.ensures.reached f c.in-Ok.ensures in
     breaks s c.in-Err-run_up_to_start.fault (g.K.Sink.end c.args.output.now).bytes a (g.R.Sink.end c.run_up_to_start.new.report).bytes (c.in-Err-run_up_to_start.ensures.gets s a w)
 
 pub returns-in-Err-run_up_to_start-clause-output :
     goal.returns-in-Err-run_up_to_start-clause-output
 returns-in-Err-run_up_to_start-clause-output g c e =
-    let s = schedule_in c.args.schedule.now in
+    let s = schedule_in c.args.schedule in
     let a = (g.R.Sink.end c.args.report.now).bytes in
-    let f = formed c.args.schedule.now.lines c.as_slice-lines.result.now c.as_slice-lines.ensures c.lines_are_well_formed.ensures in
-    let w = waits s c.in-Ok.store c.args.schedule.now.lines c.as_slice-lines.result.now a refl c.as_slice-lines.ensures c.window_stands.ensures.reached f c.in-Ok.ensures in
+    let f = formed c.args.schedule.lines c.as_slice.result.now c.as_slice.ensures c.lines_are_well_formed.ensures in
+    let w = waits s c.in-Ok.store c.args.schedule.lines c.of-lines.result a refl c.of-lines.ensures c.window_stands.ensures.reached f c.in-Ok.ensures in
     absurd (never_output c.in-Err-run_up_to_start.fault (Err c.in-Err-run_up_to_start.fault) (c.in-Err-run_up_to_start.ensures.gets s a w).0 refl e)

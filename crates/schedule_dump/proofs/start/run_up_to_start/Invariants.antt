@@ -6,7 +6,7 @@ use Rattle.schedule_dump.proofs.start.run_up_to_start.Given as goal
 
 abbrev pub invariant-lines : goal.invariant-lines
 invariant-lines g l = record {
-  waits : (s : Schedule) (first : Option (List ℕ)) → BeforeStart s l.fn.store (each numbered l.fn.lines) first (g.R.Sink.end l.fn.report).bytes → BeforeStart s l.store (each numbered l.left) first (g.R.Sink.end l.report).bytes;
+  waits : (s : Schedule) (first : Option (List ℕ)) → BeforeStart s l.fn.store (each numbered l.fn.left) first (g.R.Sink.end l.fn.report).bytes → BeforeStart s l.store (each numbered l.left) first (g.R.Sink.end l.report).bytes;
   later : (g.R.Sink.end l.fn.report).faults ≤ (g.R.Sink.end l.report).faults;
 }
 

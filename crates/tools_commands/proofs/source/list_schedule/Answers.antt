@@ -12,4 +12,4 @@ returns-in-Ok g c =
     let before = (g.K.Sink.end c.args.output.now).bytes in
     let after = (g.K.Sink.end c.list_store.new.output).bytes in
     let report = turn (g.R.Sink.end c.args.report.now) (g.R.Sink.end c.source.new.report) in
-    (subst (λ (s : State). AppendsFront before after (listing c.args.order.form s)) c.in-Ok.ensures.state c.in-Err-NoMemory-list_store.ensures.err, whole_front report (refused c.args.order c.args.schedule.now) c.in-Ok.ensures.told)
+    (subst (λ (s : State). AppendsFront before after (listing c.args.order.form s)) c.in-Ok.ensures.state c.in-Err-NoMemory-list_store.ensures.err, whole_front report (refused c.args.order c.args.schedule) c.in-Ok.ensures.told)
