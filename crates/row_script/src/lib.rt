@@ -2,62 +2,115 @@
 //! `VERB TEXT = ANSWER`. A line without ` = ` wants the empty answer. Empty lines and lines that begin with `#` are passed over.
 #![tactic(auto)]
 
+ghost use Rattle.std.specs.Prelude.{◌≡◌, ℕ, List, ⊤, string_bytes, IfOk, OnOk};
+ghost use Rattle.row_script.specs.Runs.{Asks, Takes, Runs, Tells};
+ghost use Rattle.row_script.specs.Tallies.{no_rows};
+ghost use Rattle.row_script.specs.declared.tally.Tally.{Tally};
+
+mod rows;
+mod tally;
 mod texts;
 
-use anyhow::{Context, Result, bail};
+use crate::tally::Tally;
+use anyhow::{Context, Result};
 use std::alloc::Global;
 use std::io::{Read, Write};
 pub use texts::{answer, bytes, digits, number, refused, truth, words};
 
 /// What answers the rows of a script.
 pub trait Respondent {
-    fn answer(&mut self, alloc: Global, verb: &str, text: &str) -> Result<String>;
+    // `gives old verb text answer new`: this answer may be given, and leaves this behind. The default says nothing.
+    ghost gives: { Self → List ℕ → List ℕ → List ℕ → Self → Type 0 } = { λ _ _ _ _ _. ⊤ };
+
+    fn answer(&mut self, alloc: Global, verb: &str, text: &str) -> Result<String>
+        ensures { IfOk result (λ answer. gives self.old verb.now text.now (string_bytes answer) self.new) };
 }
 
-/// Asks for each row of a script, and writes a line for each whose answer isn't the wanted one, and the numbers of rows.
+/// Asks for each row of a script, and writes a line for each whose answer isn't the wanted one, and the numbers of rows. Ok, which is exit
+/// status 0, comes only where no row differs. An error comes where one does, and else from reading, from writing, from what answers or
+/// for want of memory, of which no clause tells when.
 pub fn run<A: Respondent, R: Read, W: Write>(
     alloc: Global,
     script: &mut R,
     out: &mut W,
     respondent: &mut A,
-) -> Result<()> {
-    let mut text = String::new(alloc);
-    script.read_to_string(&mut text)?;
-    let mut rows: u32 = 0;
-    let mut differ: u32 = 0;
-    for line in text.lines() {
-        if line.is_empty() || line.starts_with('#') {
-            continue;
-        }
-        rows = rows.saturating_add(1);
-        if !is_as_wanted(alloc, line, out, respondent)? {
-            differ = differ.saturating_add(1);
-        }
-    }
-    writeln!(out, "{rows} rows, {differ} differ")?;
-    out.flush()?;
-    if differ > 0 {
-        bail!("not all rows are answered as they should be");
-    }
-    Ok(())
+) -> Result<()>
+    ensures { OnOk result ((tally : Tally) × (tally.differ ≡ 0) × Tells A.gives respondent.old (R.remaining script.old)
+        (W.contents out.old) tally respondent.new (W.contents out.new)) }
+{
+    tell(alloc, script, out, respondent)?.status()
 }
 
-// Whether a row is answered as it says. Else it writes the row and the answer.
-fn is_as_wanted<A: Respondent, W: Write>(
+// Runs a script, and writes the last line.
+fn tell<A: Respondent, R: Read, W: Write>(
+    alloc: Global,
+    script: &mut R,
+    out: &mut W,
+    respondent: &mut A,
+) -> Result<Tally>
+    ensures { IfOk result (λ tally. Tells A.gives respondent.old (R.remaining script.old)
+        (W.contents out.old) tally respondent.new (W.contents out.new)) }
+{
+    let mut text = String::new(alloc);
+    script.read_to_string(&mut text)?;
+    let tally = tally_of(alloc, text.as_str(), out, respondent)?;
+    tally.tell(out)?;
+    Ok(tally)
+}
+
+// Takes each line of a script.
+fn tally_of<A: Respondent, W: Write>(
+    alloc: Global,
+    script: &str,
+    out: &mut W,
+    respondent: &mut A,
+) -> Result<Tally>
+    ensures { IfOk result (λ tally. Runs A.gives
+        (record { respondent = respondent.old; tally = no_rows; written = W.contents out.old }) script.now
+        (record { respondent = respondent.new; tally = tally; written = W.contents out.new })) }
+{
+    let mut tally = Tally::new();
+    for line in script.lines() {
+        tally = take(alloc, line, out, respondent, tally)?;
+    }
+    Ok(tally)
+}
+
+// Asks for the row of a line, where it is one.
+fn take<A: Respondent, W: Write>(
     alloc: Global,
     line: &str,
     out: &mut W,
     respondent: &mut A,
-) -> Result<bool> {
-    let (asked, wanted) = line.split_once(" = ").unwrap_or((line, ""));
-    let (verb, text) = asked.split_once(' ').unwrap_or((asked, ""));
+    tally: Tally,
+) -> Result<Tally>
+    ensures { IfOk result (λ new. Takes A.gives
+        (record { respondent = respondent.old; tally = tally; written = W.contents out.old }) line.now
+        (record { respondent = respondent.new; tally = new; written = W.contents out.new })) }
+{
+    if rows::is_passed_over(line) {
+        return Ok(tally);
+    }
+    ask(alloc, line, out, respondent, tally)
+}
+
+// Asks for a row, and tells of it where it differs.
+fn ask<A: Respondent, W: Write>(
+    alloc: Global,
+    line: &str,
+    out: &mut W,
+    respondent: &mut A,
+    tally: Tally,
+) -> Result<Tally>
+    ensures { IfOk result (λ new. Asks A.gives
+        (record { respondent = respondent.old; tally = tally; written = W.contents out.old }) line.now
+        (record { respondent = respondent.new; tally = new; written = W.contents out.new })) }
+{
+    let (asked, wanted) = rows::parted(line);
+    let (verb, text) = rows::worded(asked);
     let answer = respondent
         .answer(alloc, verb, text)
         .context(format_args!("{asked}"))?;
-    let answer = answer.as_str();
-    let is_wanted = answer == wanted;
-    if !is_wanted {
-        writeln!(out, "{asked} = {answer}, not {wanted}")?;
-    }
-    Ok(is_wanted)
+    let differs = rows::compare(out, asked, wanted, answer.as_str())?;
+    Ok(tally.with_row(differs))
 }
