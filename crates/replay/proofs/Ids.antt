@@ -27,7 +27,7 @@ use Rattle.delta_apply.proofs.Others.{fields, fields-object}
 abbrev Field : Type 0
 Field = List ℕ × Value
 
-put_object : (fs : List Field) (k : List ℕ) (a : Value) → put (Object fs) k a ≡ Object (put_field k a fs)
+pub put_object : (fs : List Field) (k : List ℕ) (a : Value) → put (Object fs) k a ≡ Object (put_field k a fs)
 unfolding put
 put_object fs k a = ap (λ (f : Value-F Value). roll-Value (put_in f k (index_of k) a)) (outs-Object fs) ∙ rolls-Object (put_field k a fs)
 

@@ -1,4 +1,5 @@
 pub mod Ids
+pub mod OneField
 pub mod States
 pub mod Made
 pub mod Calls

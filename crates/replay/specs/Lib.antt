@@ -1,3 +1,4 @@
 pub mod Moves
 pub mod Refusals
+pub mod Splicing
 pub mod Steps

@@ -9,6 +9,7 @@ ghost use Rattle.coll_state.specs.Rows.{id_of, state_of};
 ghost use Rattle.entry_model.specs.declared.entry.Action.{out-Action};
 ghost use Rattle.replay.specs.Moves.{put_moves, with_id, deltas, options_of, moves_at};
 
+use crate::splicing::spliced;
 use bson_value::{Doc, List, NsName, Value};
 use coll_state::State;
 use delta_apply::play;
@@ -68,7 +69,7 @@ fn put_whole(
     state.put(alloc, ns, doc)
 }
 
-fn play_touches(
+fn play_built(
     alloc: Global,
     state: &mut State,
     ns: &NsName,
@@ -86,6 +87,25 @@ fn play_touches(
     };
     play(&mut doc, touches, form)?;
     state.put(alloc, ns, doc)
+}
+
+fn play_touches(
+    alloc: Global,
+    state: &mut State,
+    ns: &NsName,
+    id: &Value,
+    form: Form,
+    touches: &List<Touch>,
+) -> Result<(), AllocError>
+    requires { state.old.count < 2 ^ 127 }
+    ensures ok { OnOk result (state_of state.new ≡ replay_all (deltas ns.now (key_of id.now) form touches.now) (state_of state.old)) }
+    ensures err { OnErr result (state.new ≡ state.old) }
+    ensures count { state.new.count ≤ state.old.count + 1 }
+{
+    match spliced(alloc, state, ns, id, touches)? {
+        Some(bytes) => state.put_bytes(alloc, ns, bytes),
+        None => play_built(alloc, state, ns, id, form, touches),
+    }
 }
 
 /// The document as a tree of JSON.

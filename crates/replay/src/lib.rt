@@ -8,6 +8,7 @@ mod indexes;
 mod laws;
 mod playing;
 mod refusals;
+mod splicing;
 
 pub use counting::item_count;
 pub use fault::ReplayFault;

@@ -1,21 +1,24 @@
-use Rattle.std.proofs.Common.{◌≡◌, sym, subst, ◌∙◌, Option}
+use Rattle.std.proofs.Common.{subst, Option}
 use Rattle.std.specs.Prelude.{IfSome}
-use Rattle.bson_encode.specs.Key.{key_of}
+use Rattle.bson_view.specs.declared.document_bytes.DocumentBytes.{DocumentBytes}
+use Rattle.bson_view.specs.Kept.{kept_document}
 use Rattle.doc_path.proofs.Steps.{on_ok}
-use Rattle.coll_state.specs.Rows.{Document, id_of, key_in}
-use Rattle.replay.proofs.Calls.{touches_absent, played_has_id, played_put}
+use Rattle.replay.specs.Splicing.{IsPlayed}
+use Rattle.replay.proofs.Calls.{played_has_id, played_put}
 use Rattle.replay.proofs.actions.play_touches.Goals as goal
 
-pub returns-in_default-clause-ok : goal.returns-in_default-clause-ok
-returns-in_default-clause-ok c = touches_absent c.args.ns.now c.args.id.now c.args.form c.args.touches.now c.args.state.now (sym c.in_ok-doc.ensures.doc ∙ c.in_default.is)
+pub put_bytes-requires-clause-id : goal.put_bytes-requires-clause-id
+put_bytes-requires-clause-id c =
+    let n = c.args.ns.now in
+    let v = c.args.id.now in
+    let ts = c.args.touches.now in
+    let p = subst (λ (o : Option DocumentBytes). IfSome o (λ b. IsPlayed n v ts c.args.state.now (kept_document b))) c.in-Some.is c.in_ok-bytes.ensures in
+    played_has_id v c.args.form ts p.0 (kept_document c.in-Some.bytes) p.1.1 (p.2 c.args.form)
 
-pub put-requires-clause-id : goal.put-requires-clause-id
-put-requires-clause-id c =
-    let key = subst (λ (o : Option Document). IfSome o (λ d. key_in (id_of d) ≡ key_of c.args.id.now)) c.in-Some.is c.in_ok-doc.ensures.id in
-    played_has_id c.args.id.now c.args.form c.args.touches.now c.in-Some.doc c.play.new.doc key c.in_ok-play.ensures.ok
-
-pub returns-clause-ok : goal.returns-clause-ok
-returns-clause-ok c =
-    let key = subst (λ (o : Option Document). IfSome o (λ d. key_in (id_of d) ≡ key_of c.args.id.now)) c.in-Some.is c.in_ok-doc.ensures.id in
-    on_ok c.put.result (λ e. played_put c.args.ns.now c.args.id.now c.args.form c.args.touches.now c.in-Some.doc c.play.new.doc c.args.state.now c.put.new.self
-    (sym c.in_ok-doc.ensures.doc ∙ c.in-Some.is) key c.in_ok-play.ensures.ok e) c.put.ensures.ok
+pub returns-in-Some-clause-ok : goal.returns-in-Some-clause-ok
+returns-in-Some-clause-ok c =
+    let n = c.args.ns.now in
+    let v = c.args.id.now in
+    let ts = c.args.touches.now in
+    let p = subst (λ (o : Option DocumentBytes). IfSome o (λ b. IsPlayed n v ts c.args.state.now (kept_document b))) c.in-Some.is c.in_ok-bytes.ensures in
+    on_ok c.put_bytes.result (λ e. played_put n v c.args.form ts p.0 (kept_document c.in-Some.bytes) c.args.state.now c.put_bytes.new.self p.1.0 p.1.1 (p.2 c.args.form) e) c.put_bytes.ensures.ok

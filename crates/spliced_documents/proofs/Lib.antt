@@ -1,0 +1,4 @@
+pub mod Distinct
+pub mod Elements
+pub mod Walking
+pub mod Whole

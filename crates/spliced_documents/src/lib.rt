@@ -1,0 +1,7 @@
+//! Documents whose bytes are changed at one field, without being read.
+#![tactic(auto)]
+
+mod pieces;
+mod splicing;
+
+pub use splicing::with_field;

@@ -1,0 +1,56 @@
+//! A field of a document that is set in its bytes.
+ghost use Rattle.std.specs.Prelude.{◌≡◌, ◌↔◌, ◌≤◌, IfOk, IfSome, IsSome};
+ghost use Rattle.containers.specs.Entries.{put};
+ghost use Rattle.bson_value.specs.Levels.{levels_of};
+ghost use Rattle.bson_view.specs.Kept.{kept_bytes, kept_document};
+ghost use Rattle.bson_view.specs.Views.{document, view_bytes};
+ghost use Rattle.spliced_documents.specs.Splicing.{spliced, Fits, IsSpliced};
+
+use crate::pieces::{around, counted, field_alone};
+use bson_check::{MAX_DOCUMENT_BYTES, faultless_if_spelled};
+use bson_value::{Bytes, CText, Value};
+use bson_view::{DocumentBytes, View, one_document};
+use std::alloc::{AllocError, Global};
+
+fn spliced(
+    alloc: Global,
+    view: &View<'_>,
+    name: &CText,
+    value: &Value,
+) -> Result<Option<Bytes>, AllocError>
+    requires { levels_of (document view.now) ≤ 200 }
+    ensures some { IfOk result (λ o. IfSome o (IsSpliced name.now value.now (view_bytes view.now) (document view.now))) }
+    ensures fits { IfOk result (λ o. IsSome o ↔ Fits name.now value.now (view_bytes view.now)) }
+{
+    let Some(alone) = field_alone(alloc, name, value)? else {
+        return Ok(None);
+    };
+    let alone = alone.as_slice();
+    let element = &alone[4..alone.len() - 1];
+    let (front, rest) = around(view, name.as_str());
+    if front.len() + element.len() + rest.len() + 4 > MAX_DOCUMENT_BYTES {
+        return Ok(None);
+    }
+    Ok(Some(counted(alloc, front, element, rest)?))
+}
+
+/// The document with the value in the field of this name: in its place, or else last. `None` exactly where
+/// that has more than 16,793,600 bytes or 200 levels. All other bytes are copied as they lie.
+pub fn with_field(
+    alloc: Global,
+    view: &View<'_>,
+    name: &CText,
+    value: &Value,
+) -> Result<Option<DocumentBytes>, AllocError>
+    requires { levels_of (document view.now) ≤ 200 }
+    ensures bytes { IfOk result (λ o. IfSome o (λ b. kept_bytes b ≡ spliced name.now value.now (view_bytes view.now))) }
+    ensures document { IfOk result (λ o. IfSome o (λ b. kept_document b ≡ put name.now value.now (document view.now))) }
+    ensures fits { IfOk result (λ o. IsSome o ↔ Fits name.now value.now (view_bytes view.now)) }
+{
+    let Some(bytes) = spliced(alloc, view, name, value)? else {
+        return Ok(None);
+    };
+    faultless_if_spelled();
+    one_document();
+    Ok(Some(DocumentBytes::of_checked(bytes)))
+}
