@@ -49,7 +49,7 @@ fn is_key_in(alloc: Global, key: &Bytes, doc: Held<'_>) -> Result<bool, AllocErr
 }
 
 /// All documents of a collection, in record order.
-pub(crate) fn all_documents<'a>(
+pub fn all_documents<'a>(
     alloc: Global,
     state: &'a State,
     ns: &NsName,

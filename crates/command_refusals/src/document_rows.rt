@@ -5,7 +5,7 @@ ghost use Rattle.std.specs.FinMap as map;
 ghost use Rattle.bson_encode.specs.Key.{key_of};
 ghost use Rattle.coll_state.specs.Rows.{id_of};
 ghost use Rattle.history_model.specs.Documents.{id_first, is_good_document, is_bad_name};
-ghost use Rattle.history_model.specs.Refusals.{is_there, rows_in, row_at, row_named, definitions_in, with_good, with_update, update_of, document_refusal};
+ghost use Rattle.history_model.specs.Refusals.{is_there, rows_in, row_at, row_named, definitions_in, with_good, with_update, update_of, document_refusal as refusal_of};
 ghost use Rattle.command_refusals.specs.Keyed.{AreKeyed};
 ghost use Rattle.command_refusals.specs.Tests.{rows_refusal};
 
@@ -45,8 +45,9 @@ fn is_bad_new(state: &State, ns: &NsName) -> bool
     is_bad_name(ns)
 }
 
-// What the indexes refuse of a document that is to be put, if it may be stored.
-fn tested(
+/// Why the indexes of a collection refuse a document that is to be put, if it may be stored. `first` is the document as it is to
+/// be kept. Where the collection has indexes, the time is that of testing them over all its documents.
+pub fn document_refusal(
     alloc: Global,
     state: &State,
     ns: &NsName,
@@ -66,20 +67,17 @@ fn tested(
     }
 }
 
-/// Why an insert is refused that stands alone. `first` is the document as it is to be kept.
+/// Why an insert is refused that stands alone. `tested` is why the indexes refuse its document.
 pub fn insert_refusal(
-    alloc: Global,
     state: &State,
     ns: &NsName,
     doc: &Doc,
-    first: &Doc,
-) -> Result<Option<Refused>, AllocError>
-    requires keyed { AreKeyed state.now }
-    requires first { first.now ≡ id_first doc.now }
-    ensures { IfOk result (λ o. o ≡ document_refusal false (DocumentCommand.Insert ns.now doc.now) state.now) }
+    tested: Option<Refused>,
+) -> Option<Refused>
+    requires { tested ≡ rows_refusal (with_good (is_good_document doc.now) doc.now (rows_in (map.get state.now.tables ns.now))) (definitions_in (map.get state.now.tables ns.now)) }
+    ensures { result ≡ refusal_of false (DocumentCommand.Insert ns.now doc.now) state.now }
 {
-    let tested = tested(alloc, state, ns, doc, first)?;
-    Ok(first_row(Conditions {
+    first_row(Conditions {
         no_namespace: false,
         duplicate_id: is_named(state, ns, doc),
         no_document: false,
@@ -87,7 +85,7 @@ pub fn insert_refusal(
         bad_document: !is_good_document(doc),
         bad_update: false,
         bad_name: is_bad_new(state, ns),
-    }))
+    })
 }
 
 // Whether the document has an `_id`, and none of it is there.
@@ -100,20 +98,17 @@ fn is_unmatched(state: &State, ns: &NsName, doc: &Doc) -> bool
     }
 }
 
-/// Why a replacement is refused. `first` is the document as it is to be kept.
+/// Why a replacement is refused. `tested` is why the indexes refuse its document.
 pub fn replace_refusal(
-    alloc: Global,
     state: &State,
     ns: &NsName,
     doc: &Doc,
-    first: &Doc,
-) -> Result<Option<Refused>, AllocError>
-    requires keyed { AreKeyed state.now }
-    requires first { first.now ≡ id_first doc.now }
-    ensures { IfOk result (λ o. o ≡ document_refusal false (DocumentCommand.Replace ns.now doc.now) state.now) }
+    tested: Option<Refused>,
+) -> Option<Refused>
+    requires { tested ≡ rows_refusal (with_good (is_good_document doc.now) doc.now (rows_in (map.get state.now.tables ns.now))) (definitions_in (map.get state.now.tables ns.now)) }
+    ensures { result ≡ refusal_of false (DocumentCommand.Replace ns.now doc.now) state.now }
 {
-    let tested = tested(alloc, state, ns, doc, first)?;
-    Ok(first_row(Conditions {
+    first_row(Conditions {
         no_namespace: !state.has(ns),
         duplicate_id: false,
         no_document: is_unmatched(state, ns, doc),
@@ -121,7 +116,7 @@ pub fn replace_refusal(
         bad_document: !is_good_document(doc),
         bad_update: false,
         bad_name: is_bad_new(state, ns),
-    }))
+    })
 }
 
 // An update that gives no document is refused.
@@ -134,7 +129,9 @@ fn is_refused(updated: Option<&Updated>) -> bool
     }
 }
 
-fn tested_update(
+/// Why the indexes of a collection refuse the document that an update makes, where it makes one. Where the collection has
+/// indexes, the time is that of testing them over all its documents.
+pub fn updated_refusal(
     alloc: Global,
     state: &State,
     ns: &NsName,
@@ -150,21 +147,21 @@ fn tested_update(
     }
 }
 
-/// Why an update is refused. `updated` is what `updated` makes of the document that stands.
+/// Why an update is refused. `updated` is what `updated` makes of the document that stands, and `tested` why the indexes refuse
+/// that.
 pub fn update_refusal(
-    alloc: Global,
     state: &State,
     ns: &NsName,
     id: &Value,
     ops: &Doc,
     updated: Option<&Updated>,
-) -> Result<Option<Refused>, AllocError>
-    requires keyed { AreKeyed state.now }
+    tested: Option<Refused>,
+) -> Option<Refused>
     requires updated { option_copied updated ≡ update_of (row_at ns.now (key_of id.now) state.now) ops.now }
-    ensures { IfOk result (λ o. o ≡ document_refusal false (DocumentCommand.Update ns.now id.now ops.now) state.now) }
+    requires tested { tested ≡ rows_refusal (with_update id.now (option_copied updated) (rows_in (map.get state.now.tables ns.now))) (definitions_in (map.get state.now.tables ns.now)) }
+    ensures { result ≡ refusal_of false (DocumentCommand.Update ns.now id.now ops.now) state.now }
 {
-    let tested = tested_update(alloc, state, ns, id, updated)?;
-    Ok(first_row(Conditions {
+    first_row(Conditions {
         no_namespace: !state.has(ns),
         duplicate_id: false,
         no_document: !is_at(state, ns, id),
@@ -172,12 +169,12 @@ pub fn update_refusal(
         bad_document: false,
         bad_update: is_refused(updated),
         bad_name: is_bad_new(state, ns),
-    }))
+    })
 }
 
 /// Why a deletion is refused.
 pub fn delete_refusal(state: &State, ns: &NsName, id: &Value) -> Option<Refused>
-    ensures { result ≡ document_refusal false (DocumentCommand.Delete ns.now id.now) state.now }
+    ensures { result ≡ refusal_of false (DocumentCommand.Delete ns.now id.now) state.now }
 {
     first_row(Conditions {
         no_namespace: !state.has(ns),

@@ -37,7 +37,7 @@ fn test_all(
     Ok(Tested { clash, parallel })
 }
 
-pub(crate) fn refusal_by(clash: bool, parallel: bool) -> Option<Refused>
+pub fn refusal_by(clash: bool, parallel: bool) -> Option<Refused>
     ensures { result ≡ refusal_by clash parallel }
 {
     if clash {
@@ -51,7 +51,7 @@ pub(crate) fn refusal_by(clash: bool, parallel: bool) -> Option<Refused>
 
 /// Why the indexes of a collection refuse a document that is to be put under an `_id`. Where the collection
 /// has indexes, the time is that of testing them over all its documents; else it takes none.
-pub(crate) fn put_refusal(
+pub fn put_refusal(
     alloc: Global,
     state: &State,
     ns: &NsName,

@@ -1,5 +1,5 @@
 -- Replacements, updates and removals: what they make of a store.
-use Rattle.std.proofs.Common.{◌≡◌, ℕ, ◌+◌, List, [], ◌∷◌, Bool, true, false, not, refl, sym, ap, ◌∙◌, subst, Option, Some, None, Result, Ok, Err}
+use Rattle.std.proofs.Common.{◌≡◌, ℕ, List, [], ◌∷◌, false, not, refl, sym, ap, ◌∙◌, subst, Option, Some, None, Ok}
 use Rattle.std.specs.Prelude.{is_some}
 use Rattle.std.specs.FinMap as map
 use Rattle.bson_value.specs.declared.namespace.NsName.{NsName}
@@ -10,19 +10,14 @@ use Rattle.bson_encode.specs.Key.{key_of}
 use Rattle.doc_path.specs.declared.parts.Form.{Form}
 use Rattle.doc_path.specs.declared.touches.Touch.{Touch}
 use Rattle.entry_model.specs.Spelling.{entry_fields}
-use Rattle.entry_model.specs.declared.entry.Action.{Action}
-use Rattle.entry_model.specs.declared.entry.Action.TheVariants as actions
-use Rattle.entry_model.specs.declared.entry.Entry.{Entry}
 use Rattle.state_model.specs.Keys.{Key}
 use Rattle.coll_state.specs.Rows.{Document as Fields, Row, Rows, Table, row_of, key_in, id_of}
 use Rattle.coll_state.specs.Changes.{put, put_under, document_of, document_in, document_at}
 use Rattle.copy_model.specs.Writes as writes
 use Rattle.schedule_model.specs.declared.command.Command.{Command}
 use Rattle.schedule_model.specs.declared.command.DocumentCommand.TheVariants.{Update}
-use Rattle.schedule_model.specs.declared.refused.Refused.{Refused}
 use Rattle.update_action.specs.Recorded.{recorded, action_of}
 use Rattle.update_action.specs.Recorded as record_of
-use Rattle.update_model.specs.declared.updated.Updated.{Updated}
 use Rattle.history_model.specs.Entries.{entry_with, item_entry, update_item, delta_or_whole}
 use Rattle.history_model.specs.Entries as entries
 use Rattle.history_model.specs.Indexes.{IndexesHold}
@@ -32,7 +27,7 @@ use Rattle.history_model.proofs.Accepted.{all_false}
 use Rattle.store_log.specs.Logged.{Logged, next_ts, logged}
 use Rattle.store_core.specs.Stores.{Stored}
 use Rattle.store_core.specs.Applying.{Makes, stage_in, stored_set}
-use Rattle.store_core.specs.Documents.{replace_effects, update_effects}
+use Rattle.store_core.specs.Documents.{replace_effects}
 use Rattle.store_core.proofs.Made.{holds_one, made_one}
 
 abbrev stored : Rows → Logged → Stored

@@ -1,23 +1,19 @@
 -- A store that stands at a stage stands at the next one after each command.
-use Rattle.std.proofs.Common.{◌≡◌, ℕ, suc, ◌+◌, ◌<◌, ◌≤◌, List, [], ◌∷◌, length, false, arith, refl, sym, ap, ◌∙◌, subst, Option, Some, None, Result, Ok, Err}
-use Rattle.std.specs.Prelude.{⊤}
+use Rattle.std.proofs.Common.{◌≡◌, ℕ, suc, ◌<◌, ◌≤◌, List, [], ◌∷◌, length, false, refl, sym, ap, ◌∙◌, subst, Result, Ok, Err}
 use Rattle.bson_value.specs.declared.value.Ts.{Ts}
-use Rattle.doc_path.specs.declared.parts.Form.{Form}
 use Rattle.capped_oplog.specs.Ring.{Entry, Ring, Fits, is_over, pushed, trimmed_down, KeepsLongest}
-use Rattle.coll_state.specs.Rows.{Rows}
 use Rattle.schedule_model.specs.declared.command.Command.{Command}
 use Rattle.schedule_model.specs.declared.command.Command.TheVariants.{At, Recording, Create, DropColl, DropDatabase, Rename, Document, CreateIndex, DropIndex, Txn}
-use Rattle.schedule_model.specs.declared.refused.Refused.{Refused}
-use Rattle.history_model.specs.Entries.{OplogEntry, entry_bytes}
+use Rattle.history_model.specs.Entries.{entry_bytes}
 use Rattle.history_model.specs.Stages.{Caps, Write, Single, Effect, Stage, Made, Oplog, kept, turned, ring_entry, entry_of, made_of, rows_by, renamed_by, stage_by, stage_after, made_in}
 use Rattle.history_model.specs.Stages as stages
-use Rattle.history_model.specs.Commands.{effects, set_by, answered, applied}
+use Rattle.history_model.specs.Commands.{effects, set_by, answered}
 use Rattle.history_model.specs.Laws.{OplogIsRing}
 use Rattle.store_log.specs.Logged.{Logged, next_ts, logged, IsKept}
 use Rattle.store_core.specs.declared.fault.StoreFault.{StoreFault}
 use Rattle.store_core.specs.declared.fault.StoreFault.TheVariants as faults
 use Rattle.store_core.specs.Stores.{Stored, ring_of, StandsAt}
-use Rattle.store_core.specs.Applying.{noted, next_entry, stored_by, stored_after, stage_in, stored_set, Makes, Refuses, Applies, Accepts, Checks, AppliesAt, RefusesAt, AppliedAt, AcceptsAt, CheckedAt}
+use Rattle.store_core.specs.Applying.{noted, next_entry, stored_by, stored_after, stage_in, stored_set, Applies, Checks, AppliedAt, CheckedAt}
 use Rattle.store_core.proofs.RingLaws.{ring_more, kept_fits}
 
 -- ---- what a command makes depends on the rows, the clock and the form alone

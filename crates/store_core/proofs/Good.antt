@@ -4,17 +4,16 @@ use Rattle.std.specs.Prelude.{⊤, not, if◌then◌else◌}
 use Rattle.std.specs.FinMap as map
 use Rattle.bson_value.specs.declared.namespace.NsName.{NsName}
 use Rattle.bson_value.specs.NamespaceOrder.{namespace_cmp}
-use Rattle.json_tree.specs.declared.tree.Tree.{Tree}
 use Rattle.state_model.specs.Keys.{Key, same_key, same_ns}
 use Rattle.state_model.proofs.Keys.{ns_anti, key_is}
 use Rattle.state_model.proofs.Maps.{ns_at_insert, ns_at_remove}
 use Rattle.coll_state.specs.Kept.{is_short}
-use Rattle.coll_state.specs.Rows.{Document as Fields, Row, Table, Rows, row_of, key_in, id_of}
+use Rattle.coll_state.specs.Rows.{Document as Fields, Row, Table, Rows, key_in, id_of}
 use Rattle.coll_state.specs.Definitions.{definition_name}
 use Rattle.coll_state.specs.Changes.{Tables, put_row, drop_row, put_table, drop_table, fresh_table, or_fresh, with_incarnation, put_index, take_index, on_found, on_there, renamed_in, no_rows}
 use Rattle.copy_model.specs.Writes.{SingleWrite, change_rows}
 use Rattle.copy_model.specs.Writes.{Put, Remove, Create, DropColl, DropDb, AddIndex, DropIndex}
-use Rattle.history_model.specs.Stages.{Write, Single, Rename, Txn, rows_all, rows_by}
+use Rattle.history_model.specs.Stages.{rows_all}
 use Rattle.command_refusals.specs.Keyed.{AllKeyed, AreKeyed}
 use Rattle.store_core.specs.Stores.{AllShort, AreShort}
 

@@ -1,5 +1,5 @@
 -- Inserts: what they make of a store, by the document that is kept.
-use Rattle.std.proofs.Common.{◌≡◌, ℕ, ◌+◌, List, [], ◌∷◌, Bool, true, false, cond, refl, sym, ap, ◌∙◌, subst, Option, Some, None, Result, Ok, Err}
+use Rattle.std.proofs.Common.{◌≡◌, ℕ, List, [], ◌∷◌, Bool, true, false, cond, refl, sym, ap, ◌∙◌, subst, Option, Some, None, Ok}
 use Rattle.std.specs.Prelude.{is_some}
 use Rattle.std.specs.FinMap as map
 use Rattle.bson_value.specs.declared.namespace.NsName.{NsName}
@@ -23,7 +23,7 @@ use Rattle.history_model.specs.Documents.{options_of}
 use Rattle.history_model.specs.Entries.{entry_with, entry_bytes}
 use Rattle.history_model.specs.Entries as entries
 use Rattle.history_model.specs.Indexes.{IndexesOf, IndexesHold}
-use Rattle.history_model.specs.Stages.{Single, Effect}
+use Rattle.history_model.specs.Stages.{Single}
 use Rattle.history_model.specs.Commands.{only, effects, insert_changes, under_id, one_each}
 use Rattle.store_log.specs.Logged.{Logged, next_ts, logged}
 use Rattle.store_core.specs.Stores.{Stored}

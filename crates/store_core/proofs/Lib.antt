@@ -6,5 +6,6 @@ pub mod Rows
 pub mod InsertEffects
 pub mod DocumentEffects
 pub mod RingLaws
+pub mod Elsewhere
 pub mod Following
 pub mod TogetherEffects

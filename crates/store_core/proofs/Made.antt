@@ -1,5 +1,5 @@
 -- What an accepted command makes of a store.
-use Rattle.std.proofs.Common.{◌≡◌, ℕ, ◌+◌, List, [], ◌∷◌, length, refl, sym, ap, ◌∙◌, subst, Result, Ok, Err}
+use Rattle.std.proofs.Common.{◌≡◌, ℕ, List, [], ◌∷◌, refl, sym, ap, ◌∙◌, subst, Ok}
 use Rattle.bson_value.specs.declared.namespace.NsName.{NsName}
 use Rattle.bson_value.specs.declared.value.Ts.{Ts}
 use Rattle.bson_value.specs.Spelling.{document_text}
@@ -8,7 +8,6 @@ use Rattle.coll_state.specs.Rows.{Rows}
 use Rattle.coll_state.specs.Changes.{rename}
 use Rattle.copy_model.specs.Writes.{SingleWrite, change_rows}
 use Rattle.schedule_model.specs.declared.command.Command.{Command}
-use Rattle.schedule_model.specs.declared.refused.Refused.{Refused}
 use Rattle.history_model.specs.Entries.{Item, One, entry_at, entry_bytes}
 use Rattle.history_model.specs.Entries as entries
 use Rattle.history_model.specs.Stages.{Single, Effect, Stage, Made, stage_after, made_in, rows_by}

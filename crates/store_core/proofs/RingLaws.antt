@@ -1,7 +1,7 @@
 -- The ring with one entry more has the entries that a stage keeps.
-use Rattle.std.proofs.Common.{◌≡◌, ℕ, zero, suc, ◌+◌, ◌-◌, ◌<◌, ◌≤◌, List, [], ◌∷◌, ◌++◌, length, drop, Bool, true, false, arith, refl, sym, ap, ◌∙◌, subst, Option}
+use Rattle.std.proofs.Common.{◌≡◌, ℕ, ◌<◌, ◌≤◌, List, [], ◌∷◌, ◌++◌, length, drop, arith, refl, sym, ap, ◌∙◌, subst, Option}
 use Rattle.std.proofs.lemmas.List.{length-append}
-use Rattle.capped_oplog.specs.Ring.{Entry, is_over, pushed, trimmed_down, after_pushes, Fits, IsSuffix, IsLongest, KeepsLongest}
+use Rattle.capped_oplog.specs.Ring.{Entry, pushed, trimmed_down, after_pushes, Fits, IsSuffix, IsLongest, KeepsLongest}
 use Rattle.history_model.specs.Entries.{OplogEntry}
 use Rattle.history_model.specs.Stages.{Caps, Oplog, kept, turned, ring_entry}
 use Rattle.history_model.specs.Laws.{OplogIsRing}

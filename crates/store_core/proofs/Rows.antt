@@ -1,5 +1,5 @@
 -- What follows where no row refuses a command.
-use Rattle.std.proofs.Common.{◌≡◌, ℕ, List, [], ◌∷◌, Bool, true, false, not, refl, sym, ap, ◌∙◌, Option, Some, None, Result, Ok, Err}
+use Rattle.std.proofs.Common.{◌≡◌, Bool, true, false, not, refl, sym, ap, ◌∙◌, Option, Some, None, Ok}
 use Rattle.std.specs.Prelude.{◌&&◌, ◌||◌, nat_le, codes}
 use Rattle.containers.specs.Entries.{lookup}
 use Rattle.bson_value.specs.Levels.{levels_of}

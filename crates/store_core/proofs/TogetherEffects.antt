@@ -1,29 +1,26 @@
 -- Transactions: the size of their entry, and what they make of a store.
-use Rattle.std.proofs.Common.{◌≡◌, ℕ, suc, ◌+◌, ◌<◌, ◌≤◌, ◌^◌, List, [], ◌∷◌, length, map as each, Bool, true, false, arith, refl, sym, ap, ◌∙◌, subst, Option, Some, None, Result, Ok, Err}
-use Rattle.std.specs.Prelude.{⊤, nat_lt, codes}
+use Rattle.std.proofs.Common.{◌≡◌, ℕ, suc, ◌+◌, ◌<◌, ◌≤◌, ◌^◌, List, [], ◌∷◌, length, map as each, Bool, true, false, arith, refl, sym, ap, ◌∙◌, subst, Option, Some, None, Ok, Err}
+use Rattle.std.specs.Prelude.{nat_lt, codes}
 use Rattle.std.proofs.lemmas.Bool.{lt-ltb, le-ltb}
-use Rattle.bson_value.specs.declared.namespace.NsName.{NsName}
 use Rattle.bson_value.specs.declared.value.Ts.{Ts}
 use Rattle.bson_value.specs.declared.value.Value.{Value, Array}
 use Rattle.bson_value.specs.Spelling.{document_text}
 use Rattle.bson_encode.specs.Key.{key_of}
 use Rattle.coll_state.specs.declared.change.Change.{Change}
-use Rattle.coll_state.specs.ChangeAll.{AreThere, HasId, HaveIds, change_all}
-use Rattle.coll_state.specs.Kept.{is_short}
-use Rattle.coll_state.specs.Rows.{Document as Fields, Rows, key_in, id_of}
+use Rattle.coll_state.specs.ChangeAll.{change_all}
+use Rattle.coll_state.specs.Rows.{Document as Fields, Rows, key_in}
 use Rattle.coll_state.specs.Changes.{Tables}
 use Rattle.copy_model.specs.Writes.{SingleWrite, Put, Remove, change_rows}
 use Rattle.copy_model.specs.Writes as writes
-use Rattle.entry_documents.specs.Laws.{EntrySizes, fields_at, part_sizes}
+use Rattle.entry_documents.specs.Laws.{EntrySizes, part_sizes}
 use Rattle.entry_model.specs.declared.entry.Entry.{Entry}
 use Rattle.entry_model.specs.declared.entry.Action.TheVariants as actions
 use Rattle.entry_model.specs.Spelling.{Body, command_body, body_at, body_of, item_value, entry_fields}
 use Rattle.schedule_model.specs.declared.command.Command.TheVariants.{Txn}
 use Rattle.schedule_model.specs.declared.command.DocumentCommand.{DocumentCommand}
-use Rattle.schedule_model.specs.declared.refused.Refused.{Refused}
 use Rattle.schedule_model.specs.declared.refused.Refused.TheVariants.{TooLarge}
 use Rattle.transactions.specs.declared.transaction.Transaction.{Transaction}
-use Rattle.transactions.specs.Transactions.{IsGood, AreGood, AreMade, ChangesAreWrites, write_by, write_of}
+use Rattle.transactions.specs.Transactions.{IsGood, AreGood, ChangesAreWrites, write_by, write_of}
 use Rattle.history_model.specs.Entries.{Item, Group, Content, database, entry_with, item_entry, entry_at, entry_bytes, no_ts, size_of, content_size}
 use Rattle.history_model.specs.Entries as entries
 use Rattle.history_model.specs.Indexes.{IndexesHold}
@@ -32,6 +29,8 @@ use Rattle.history_model.specs.Stages.{Effect, rows_all}
 use Rattle.history_model.specs.Commands.{RecordedWrite, changes_together, effects, grouped, group_of, is_too_large, or_too_large}
 use Rattle.store_log.specs.Logged.{Logged, next_ts, logged}
 use Rattle.store_core.specs.Stores.{Stored, IsSoundStore}
+use Rattle.kept_indexes.specs.declared.collection.KeptCollection.{KeptCollection}
+use Rattle.kept_indexes.specs.Kept.{AreKept}
 use Rattle.store_core.specs.Applying.{stage_in}
 use Rattle.store_core.specs.Together.{Trial, IsTogether, MakesTogether, group_effect}
 use Rattle.store_core.specs.declared.transaction.Group.{Group as Made}
@@ -154,9 +153,9 @@ each_length : (cs : List Change) → length (each write_of cs) ≡ length cs
 each_length [] = refl
 each_length (c ∷ cs) = ap suc (each_length cs)
 
-pub sound_changes : ChangesAreWrites → (cs : List Change) (r s : Rows) (l m : Logged) (old : Stored) (bytes : List ℕ) → ◌≡◌ {A = Stored} (record { rows = r; log = l }) old → IsSoundStore r l → AreGood cs old.rows.tables → length cs < 2 ^ 64 → IndexesHold (change_all cs old.rows) →
-    s ≡ change_all cs r → m ≡ logged bytes l → old.log.recorded < 4000000000 → IsSoundStore s m
-sound_changes law cs r s l m old bytes v h g few i e f low =
+pub sound_changes : {ks js : List KeptCollection} → ChangesAreWrites → (cs : List Change) (r s : Rows) (l m : Logged) (old : Stored) (bytes : List ℕ) → ◌≡◌ {A = Stored} (record { rows = r; log = l }) old → IsSoundStore r l ks → AreGood cs old.rows.tables → length cs < 2 ^ 64 → IndexesHold (change_all cs old.rows) →
+    s ≡ change_all cs r → m ≡ logged bytes l → old.log.recorded < 4000000000 → AreKept js s → IsSoundStore s m js
+sound_changes law cs r s l m old bytes v h g few i e f low kept =
     (let here : l.recorded ≡ old.log.recorded = ap (λ (z : Stored). z.log.recorded) v in
     let more : m.recorded ≡ l.recorded + 1 = ap (λ (z : Logged). z.recorded) f in
     let made : s ≡ rows_all (each write_of cs) r = e ∙ law cs r in
@@ -165,7 +164,7 @@ sound_changes law cs r s l m old bytes v h g few i e f low =
     let n = changes_count (each write_of cs) r in
     let size = each_length cs in
     let count : s.count ≡ (rows_all (each write_of cs) r).count = ap (λ (z : Rows). z.count) made in
-    sound_after r s l m 1 h good holds (omega (arith, n, size, count, few)) more (omega (arith, more, here, low)))
+    sound_after r s l m 1 h good holds (omega (arith, n, size, count, few)) more (omega (arith, more, here, low)) kept)
 
 pub changes_hold : ChangesAreWrites → (ds : List DocumentCommand) (s : Stored) (cs : List Change) (is : List Item) → IndexesHold s.rows → effects (Txn ds) (stage_in s) ≡ Ok (group_effect cs is ∷ []) → IndexesHold (change_all cs s.rows)
 changes_hold law ds s cs is h e = subst IndexesHold (sym (law cs s.rows)) (holds_group (Txn ds) s (each write_of cs) is h e)

@@ -1,6 +1,5 @@
 -- What a command makes of a store.
 use Rattle.std.specs.Prelude.{⊤, ◌≡◌, ℕ, List, [], ◌∷◌, length, Option, Some, None, Result, Ok, Err}
-use Rattle.bson_value.specs.declared.value.Ts.{Ts}
 use Rattle.schedule_model.specs.declared.command.Command.{Command}
 use Rattle.schedule_model.specs.declared.command.Command.TheVariants.{At, Recording}
 use Rattle.schedule_model.specs.declared.refused.Refused.{Refused}

@@ -1,5 +1,5 @@
 -- What a store holds, and the stage at which it stands.
-use Rattle.std.specs.Prelude.{⊤, ◌≡◌, ◌+◌, ◌*◌, ◌≤◌, ◌^◌, List, [], ◌∷◌, true, Some}
+use Rattle.std.specs.Prelude.{⊤, ◌≡◌, ◌*◌, ◌≤◌, ◌^◌, List, [], ◌∷◌, true, Some}
 use Rattle.std.specs.FinMap as map
 use Rattle.bson_value.specs.declared.namespace.NsName.{NsName}
 use Rattle.coll_state.specs.Kept.{is_short}
@@ -9,6 +9,8 @@ use Rattle.store_log.specs.Logged.{Logged}
 use Rattle.history_model.specs.Indexes.{IndexesHold}
 use Rattle.history_model.specs.Stages.{Stage, turned}
 use Rattle.command_refusals.specs.Keyed.{AreKeyed}
+use Rattle.kept_indexes.specs.declared.collection.KeptCollection.{KeptCollection}
+use Rattle.kept_indexes.specs.Kept.{AreKept}
 
 -- collections, and what is recorded
 pub record Stored : Type 0 where
@@ -36,10 +38,11 @@ AllShort (r ∷ rs) = (is_short r.document ≡ true) × AllShort rs
 abbrev pub AreShort : Rows → Type 0
 AreShort s = (n : NsName) (t : Table) → map.get s.tables n ≡ Some t → AllShort t.rows
 
--- what holds of a store at each moment: each document stands under the key of its `_id` and is short; the indexes hold; and the calls that the collections count are at most 2^64 for each entry that was recorded
-pub record IsSoundStore (rows : Rows) (log : Logged) : Type 0 where
+-- what holds of a store at each moment: each document stands under the key of its `_id` and is short; the indexes hold, and those that are kept are built over the documents; and the calls that the collections count are at most 2^64 for each entry that was recorded
+pub record IsSoundStore (rows : Rows) (log : Logged) (indexes : List KeptCollection) : Type 0 where
   pub keyed : AreKeyed rows
   pub short : AreShort rows
   pub holds : IndexesHold rows
   pub counted : rows.count ≤ log.recorded * 2 ^ 64
   pub recorded : log.recorded ≤ 4000000001
+  pub kept : AreKept indexes rows

@@ -1,5 +1,5 @@
 -- What a transaction makes together.
-use Rattle.std.specs.Prelude.{⊤, ◌≡◌, ◌<◌, ◌^◌, ℕ, List, [], ◌∷◌, map as each, length, Option, Some, None, Result, Ok, Err}
+use Rattle.std.specs.Prelude.{◌≡◌, ◌<◌, ◌^◌, List, [], ◌∷◌, map as each, length, Option, Some, None, Result, Ok, Err}
 use Rattle.coll_state.specs.declared.change.Change.{Change}
 use Rattle.coll_state.specs.ChangeAll.{AreThere, HaveIds}
 use Rattle.schedule_model.specs.declared.command.Command.TheVariants.{Txn}

@@ -6,6 +6,7 @@ ghost use Rattle.store_core.specs.Applying.{AppliedAt, Applies, Decided};
 
 use crate::fault::StoreFault;
 use crate::store::Store;
+use bson_value::NsName;
 use capped_oplog::keeps_the_longest_suffix;
 use doc_path::Form;
 use history_model::oplog_is_kept;
@@ -37,14 +38,30 @@ impl Store {
         Ok(0)
     }
 
+    // Keeps the built indexes of a collection from now on, where there are any.
+    fn keep_indexes(&mut self, ns: &NsName)
+        ensures { self.new ≡ self.old }
+    {
+        self.indexes.keep(self.alloc, &self.state, ns);
+    }
+
     fn apply_to_document(&mut self, cmd: &DocumentCommand) -> Result<u32, StoreFault>
         requires { self.old.log.recorded < 4000000000 }
         ensures { Applies (Command.Document cmd.now) self.old result self.new }
     {
         match cmd {
-            DocumentCommand::Insert { ns, doc } => self.insert(ns, doc),
-            DocumentCommand::Replace { ns, doc } => self.replace(ns, doc),
-            DocumentCommand::Update { ns, id, ops } => self.update(ns, id, ops),
+            DocumentCommand::Insert { ns, doc } => {
+                self.keep_indexes(ns);
+                self.insert(ns, doc)
+            }
+            DocumentCommand::Replace { ns, doc } => {
+                self.keep_indexes(ns);
+                self.replace(ns, doc)
+            }
+            DocumentCommand::Update { ns, id, ops } => {
+                self.keep_indexes(ns);
+                self.update(ns, id, ops)
+            }
             DocumentCommand::Delete { ns, id } => self.delete(ns, id),
         }
     }
@@ -70,8 +87,9 @@ impl Store {
     /// Applies a command, and gives the number of entries that it records: 2 where an insert makes its collection, 0 of a
     /// clock, a form, and what changes nothing, else 1. On an error, a refusal or want of memory, the store is as before.
     ///
-    /// The time is that of the document and of log n for n documents, but where the collection has indexes: there a write is
-    /// tested over all its documents.
+    /// The time is that of the document and of log n for n documents, and for each index of the collection of a search for each
+    /// key of the document. The first write to a collection with indexes builds them over all its documents, and so does the
+    /// first one behind a transaction, a rename or a drop of a database.
     pub fn apply(&mut self, cmd: &Command) -> Result<u32, StoreFault>
         requires { self.old.log.recorded < 4000000000 }
         ensures stage { (st : Stage) → StandsAt self.old st → AppliedAt cmd.now st result self.new }

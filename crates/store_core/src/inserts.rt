@@ -33,7 +33,10 @@ impl Store {
         id_first_is_alike();
         stored_documents_are_good();
         let first = id_first(self.alloc, doc)?;
-        unless(insert_refusal(self.alloc, &self.state, ns, doc, &first)?)?;
+        let tested = self
+            .indexes
+            .refusal(self.alloc, &self.state, ns, doc, &first)?;
+        unless(insert_refusal(&self.state, ns, doc, tested))?;
         Ok(first)
     }
 

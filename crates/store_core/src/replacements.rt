@@ -53,7 +53,10 @@ impl Store {
         id_first_is_alike();
         stored_documents_are_good();
         let first = id_first(self.alloc, doc)?;
-        unless(replace_refusal(self.alloc, &self.state, ns, doc, &first)?)?;
+        let tested = self
+            .indexes
+            .refusal(self.alloc, &self.state, ns, doc, &first)?;
+        unless(replace_refusal(&self.state, ns, doc, tested))?;
         let id = id_of(self.alloc, &first)?;
         match self.state.copy_of(self.alloc, ns, &id)? {
             Some(old) => Ok((old, first)),

@@ -11,6 +11,7 @@ use capped_oplog::CappedOplog;
 use coll_state::State;
 use entry_model::{Action, Entry};
 use entry_writer::write;
+use kept_indexes::KeptIndexes;
 use std::alloc::{AllocError, Global};
 use std::marker::Model;
 use store_log::{Log, next_ts};
@@ -21,6 +22,9 @@ pub struct Store {
     pub(crate) alloc: Global,
     pub(crate) state: State,
     pub(crate) log: Log,
+    /// The built indexes of those collections that were written to since they were last made, renamed or dropped, or their
+    /// definitions changed.
+    pub(crate) indexes: KeptIndexes,
 }
 
 impl Model for Store {
@@ -33,7 +37,7 @@ impl Model for Store {
 
     ghost view = { λ s. record { rows = s.state; log = s.log } };
 
-    ghost invariant = { λ s. IsSoundStore s.state s.log };
+    ghost invariant = { λ s. IsSoundStore s.state s.log s.indexes };
 }
 
 // The bytes of the first entry, which stands at 1:1 and is of no write.
@@ -65,6 +69,7 @@ impl Store {
             alloc,
             state: State::new(alloc),
             log: Log::new(oplog, first),
+            indexes: KeptIndexes::new(alloc),
         })
     }
 

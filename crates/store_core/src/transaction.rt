@@ -74,6 +74,7 @@ impl Store {
     {
         changes_are_writes();
         let Group { changes, bytes } = group;
+        self.indexes.clear();
         self.state.change(self.alloc, changes)?;
         self.log.add(bytes);
         Ok(())

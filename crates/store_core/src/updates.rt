@@ -24,10 +24,9 @@ impl Store {
         requires { row_at ns.now (key_of id.now) self.now.rows ≡ None }
         ensures { Refuses (Command.Document (DocumentCommand.Update ns.now id.now ops.now)) self.now result }
     {
-        match update_refusal(self.alloc, &self.state, ns, id, ops, None) {
-            Ok(Some(row)) => StoreFault::Refused(row),
-            Ok(None) => unreachable!(),
-            Err(_) => StoreFault::NoMemory,
+        match update_refusal(&self.state, ns, id, ops, None, None) {
+            Some(row) => StoreFault::Refused(row),
+            None => unreachable!(),
         }
     }
 
@@ -41,7 +40,10 @@ impl Store {
             return Err(self.missing(ns, id, ops));
         };
         let after = updated(self.alloc, &old, ops)?;
-        unless(update_refusal(self.alloc, &self.state, ns, id, ops, after.as_ref())?)?;
+        let tested = self
+            .indexes
+            .updated_refusal(self.alloc, &self.state, ns, id, after.as_ref())?;
+        unless(update_refusal(&self.state, ns, id, ops, after.as_ref(), tested))?;
         match after {
             Some(after) => Ok((old, after)),
             None => unreachable!(),

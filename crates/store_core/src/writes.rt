@@ -24,9 +24,18 @@ impl Store {
         ensures ok { OnOk result (self.new ≡ record { rows = put ns.now doc self.old.rows; log = logged bytes self.old.log }) }
         ensures err { OnErr result (self.new ≡ self.old) }
     {
-        self.state.put(self.alloc, ns, doc)?;
-        self.log.add(bytes);
-        Ok(())
+        self.state.is_sound();
+        self.indexes.put(self.alloc, ns, &doc);
+        match self.state.put(self.alloc, ns, doc) {
+            Ok(()) => {
+                self.log.add(bytes);
+                Ok(())
+            }
+            Err(e) => {
+                self.indexes.forget(ns);
+                Err(e)
+            }
+        }
     }
 
     /// Makes a collection with its first document. That is two entries.
@@ -45,6 +54,7 @@ impl Store {
         ensures ok { OnOk result (self.new ≡ record { rows = put ns.now doc (create ns.now no_options self.old.rows); log = logged bytes (logged creation self.old.log) }) }
         ensures err { OnErr result (self.new ≡ self.old) }
     {
+        self.indexes.forget(ns);
         self.state.put_first(self.alloc, ns, doc)?;
         self.log.add(creation);
         self.log.add(bytes);
@@ -56,6 +66,7 @@ impl Store {
         requires holds { IndexesHold (remove ns.now (key_of id.now) self.old.rows) }
         ensures { self.new ≡ record { rows = remove ns.now (key_of id.now) self.old.rows; log = logged bytes self.old.log } }
     {
+        self.indexes.remove(self.alloc, ns, id);
         let _ = self.state.remove(ns, id);
         self.log.add(bytes);
     }
@@ -71,6 +82,7 @@ impl Store {
         ensures ok { OnOk result (self.new ≡ record { rows = create ns.now options self.old.rows; log = logged bytes self.old.log }) }
         ensures err { OnErr result (self.new ≡ self.old) }
     {
+        self.indexes.forget(ns);
         self.state.create(self.alloc, ns, options)?;
         self.log.add(bytes);
         Ok(())
@@ -81,6 +93,7 @@ impl Store {
         requires holds { IndexesHold (drop_ns ns.now self.old.rows) }
         ensures { self.new ≡ record { rows = drop_ns ns.now self.old.rows; log = logged bytes self.old.log } }
     {
+        self.indexes.forget(ns);
         let _ = self.state.drop_ns(ns);
         self.log.add(bytes);
     }
@@ -90,6 +103,7 @@ impl Store {
         requires holds { IndexesHold (drop_db db.now self.old.rows) }
         ensures { self.new ≡ record { rows = drop_db db.now self.old.rows; log = logged bytes self.old.log } }
     {
+        self.indexes.clear();
         let _ = self.state.drop_db(db);
         self.log.add(bytes);
     }
@@ -107,6 +121,7 @@ impl Store {
         ensures ok { OnOk result (self.new ≡ record { rows = rename from.now to.now self.old.rows; log = with_rename (logged bytes self.old.log) }) }
         ensures err { OnErr result (self.new ≡ self.old) }
     {
+        self.indexes.clear();
         self.state.rename(self.alloc, from, to)?;
         self.log.add(bytes);
         self.log.note_rename();
@@ -124,6 +139,7 @@ impl Store {
         ensures ok { OnOk result (self.new ≡ record { rows = add_index ns.now def self.old.rows; log = logged bytes self.old.log }) }
         ensures err { OnErr result (self.new ≡ self.old) }
     {
+        self.indexes.forget(ns);
         self.state.add_index(ns, def)?;
         self.log.add(bytes);
         Ok(())
@@ -134,6 +150,7 @@ impl Store {
         requires holds { IndexesHold (drop_index ns.now name.now self.old.rows) }
         ensures { self.new ≡ record { rows = drop_index ns.now name.now self.old.rows; log = logged bytes self.old.log } }
     {
+        self.indexes.forget(ns);
         let _ = self.state.drop_index(ns, name);
         self.log.add(bytes);
     }

@@ -13,7 +13,10 @@ ghost use Rattle.transactions.specs.Steps.{IsPut, IsStep, changes_nothing, updat
 use crate::recorded::Recorded;
 use bson_value::{Doc, NsName, Value};
 use coll_state::{COUNT_LIMIT, Change, State};
-use command_refusals::{delete_refusal, insert_refusal, replace_refusal, update_refusal, updated};
+use command_refusals::{
+    delete_refusal, document_refusal, insert_refusal, replace_refusal, update_refusal, updated,
+    updated_refusal,
+};
 use command_rules::id_first;
 use doc_path::Form;
 use entry_model::Action;
@@ -79,7 +82,8 @@ fn insert(alloc: Global, rows: &mut State, ns: &NsName, doc: &Doc) -> Result<Ans
     ensures { IfOk result (λ a. (form : Form) → IsStep false form (DocumentCommand.Insert ns.now doc.now) a rows.old rows.new) }
 {
     let first = id_first(alloc, doc)?;
-    if let Some(refused) = insert_refusal(alloc, rows, ns, doc, &first)? {
+    let tested = document_refusal(alloc, rows, ns, doc, &first)?;
+    if let Some(refused) = insert_refusal(rows, ns, doc, tested) {
         return Ok(Err(refused));
     }
     let copy = first.copy(alloc)?;
@@ -106,7 +110,8 @@ fn replace(alloc: Global, rows: &mut State, ns: &NsName, doc: &Doc) -> Result<An
     ensures { IfOk result (λ a. (form : Form) → IsStep false form (DocumentCommand.Replace ns.now doc.now) a rows.old rows.new) }
 {
     let first = id_first(alloc, doc)?;
-    if let Some(refused) = replace_refusal(alloc, rows, ns, doc, &first)? {
+    let tested = document_refusal(alloc, rows, ns, doc, &first)?;
+    if let Some(refused) = replace_refusal(rows, ns, doc, tested) {
         return Ok(Err(refused));
     }
     let id = id_in(alloc, &first)?;
@@ -146,7 +151,8 @@ fn update(
 {
     let old = rows.copy_of(alloc, ns, id)?;
     let made = made_of(alloc, old.as_ref(), ops)?;
-    if let Some(refused) = update_refusal(alloc, rows, ns, id, ops, made.as_ref())? {
+    let tested = updated_refusal(alloc, rows, ns, id, made.as_ref())?;
+    if let Some(refused) = update_refusal(rows, ns, id, ops, made.as_ref(), tested) {
         return Ok(Err(refused));
     }
     let Some(Updated { doc, touches }) = made else {

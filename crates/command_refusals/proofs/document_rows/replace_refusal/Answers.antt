@@ -5,4 +5,4 @@ use Rattle.command_refusals.proofs.document_rows.replace_refusal.Goals as goal
 pub returns : goal.returns
 returns c =
     c.first_row.ensures
-    ∙ replace_row c.args.ns.now c.args.doc.now c.args.state.now c.is_unmatched.result c.has.result c.is_good_document.result c.is_bad_new.result c.in_ok-tested.tested c.is_unmatched.ensures c.has.ensures c.is_good_document.ensures c.is_bad_new.ensures c.in_ok-tested.ensures
+    ∙ replace_row c.args.ns.now c.args.doc.now c.args.state.now c.is_unmatched.result c.has.result c.is_good_document.result c.is_bad_new.result c.args.tested c.is_unmatched.ensures c.has.ensures c.is_good_document.ensures c.is_bad_new.ensures c.requires

@@ -1,4 +1,4 @@
-use Rattle.std.proofs.Common.{◌≡◌, ℕ, List, IfOk, ap, ◌∙◌, subst}
+use Rattle.std.proofs.Common.{◌≡◌, ℕ, List, IfOk, ◌∙◌, subst}
 use Rattle.bson_value.specs.Spelling.{document_text}
 use Rattle.entry_model.specs.Spelling.{entry_fields}
 use Rattle.history_model.specs.Entries.{Nothing, entry_with}

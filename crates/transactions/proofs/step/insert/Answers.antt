@@ -11,13 +11,13 @@ use Rattle.transactions.proofs.step.insert.Goals as goal
 
 pub put-requires : goal.put-requires
 put-requires c =
-    let none : document_refusal false (Insert c.args.ns.now c.args.doc.now) c.args.rows.now ≡ None = sym c.in_ok-refused.ensures ∙ c.in_default.is in
+    let none : document_refusal false (Insert c.args.ns.now c.args.doc.now) c.args.rows.now ≡ None = sym c.insert_refusal.ensures ∙ c.in_default.is in
     subst (λ (z : Document). is_some (id_of z) ≡ true) (sym c.in_ok-first.ensures) (good_named c.args.doc.now (inserted_good c.args.ns.now c.args.doc.now c.args.rows.now none))
 
 pub returns : goal.returns
 returns c =
     λ f.
-    let none : document_refusal false (Insert c.args.ns.now c.args.doc.now) c.args.rows.now ≡ None = sym c.in_ok-refused.ensures ∙ c.in_default.is in
+    let none : document_refusal false (Insert c.args.ns.now c.args.doc.now) c.args.rows.now ≡ None = sym c.insert_refusal.ensures ∙ c.in_default.is in
     let x : Recorded = record { change = c.in_ok-change.change; action = actions.Put c.in_ok-copy.copy } in
     insert_made f c.args.ns.now c.args.doc.now x c.args.rows.now c.put.new.rows none c.requires.there
     (subst (λ (z : Document). IsPut x.change c.args.ns.now z c.args.rows.now c.put.new.rows) c.in_ok-first.ensures c.in_ok-change.ensures)

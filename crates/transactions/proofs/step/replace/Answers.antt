@@ -14,13 +14,13 @@ use Rattle.transactions.proofs.step.replace.Goals as goal
 
 pub id_in-requires : goal.id_in-requires
 id_in-requires c =
-    let none : document_refusal false (Replace c.args.ns.now c.args.doc.now) c.args.rows.now ≡ None = sym c.in_ok-refused.ensures ∙ c.in_default.is in
+    let none : document_refusal false (Replace c.args.ns.now c.args.doc.now) c.args.rows.now ≡ None = sym c.replace_refusal.ensures ∙ c.in_default.is in
     subst (λ (z : Document). is_some (id_of z) ≡ true) (sym c.in_ok-first.ensures) (good_named c.args.doc.now (replaced_good c.args.ns.now c.args.doc.now c.args.rows.now none))
 
 pub returns : goal.returns
 returns c =
     λ f.
-    let none : document_refusal false (Replace c.args.ns.now c.args.doc.now) c.args.rows.now ≡ None = sym c.in_ok-refused.ensures ∙ c.in_default.is in
+    let none : document_refusal false (Replace c.args.ns.now c.args.doc.now) c.args.rows.now ≡ None = sym c.replace_refusal.ensures ∙ c.in_default.is in
     let x : Recorded = record { change = c.in_ok-change.change; action = actions.Whole c.in_ok-id.id c.in_ok-copy.copy } in
     let first : c.in_ok-first.first ≡ id_first c.args.doc.now = c.in_ok-first.ensures in
     let id : id_of (id_first c.args.doc.now) ≡ Some c.in_ok-id.id = ap (λ (z : Document). id_of z) (sym first) ∙ c.in_ok-id.ensures in

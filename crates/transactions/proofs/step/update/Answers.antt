@@ -25,7 +25,7 @@ put-requires c =
 
 pub returns : goal.returns
 returns c =
-    let none : document_refusal false (Update c.args.ns.now c.args.id.now c.args.ops.now) c.args.rows.now ≡ None = sym c.in_ok-refused.ensures ∙ c.in_default.is in
+    let none : document_refusal false (Update c.args.ns.now c.args.id.now c.args.ops.now) c.args.rows.now ≡ None = sym c.update_refusal.ensures ∙ c.in_default.is in
     let old = document_at c.args.ns.now (key_of c.args.id.now) c.args.rows.now.tables in
     let u : Updated = c.in-Some-made.field-0 in
     let made : Some u ≡ update_made c.in_ok-old.old c.args.ops.now = sym c.in-Some-made.is ∙ (c.in_ok-made.ensures ∙ ap (λ (o : Option Document). update_made o c.args.ops.now) c.as_ref.ensures.value) in
@@ -33,5 +33,5 @@ returns c =
     let x : Recorded = record { change = c.in_ok-change.change; action = c.in_ok-action.action } in
     update_done c.args.form c.args.ns.now c.args.id.now c.args.ops.now u c.is_kept.result x c.args.rows.now c.put.new.rows none c.requires.there
     (made ∙ ap (λ (o : Option Document). update_made o c.args.ops.now) c.in_ok-old.ensures.doc) w
-    (c.is_kept.ensures ∙ ap (λ (o : Option Document). changes_nothing o u.doc) (c.as_ref-3.ensures.value ∙ c.in_ok-old.ensures.doc)) c.if-is_kept.false c.in_ok-change.ensures
+    (c.is_kept.ensures ∙ ap (λ (o : Option Document). changes_nothing o u.doc) (c.as_ref-4.ensures.value ∙ c.in_ok-old.ensures.doc)) c.if-is_kept.false c.in_ok-change.ensures
     (c.in_ok-action.ensures ∙ ap (action_of c.args.form c.args.id.now u.doc) c.as_slice.ensures)

@@ -1,4 +1,4 @@
-use Rattle.std.proofs.Common.{◌≡◌, ℕ, List, IfOk, refl, ap, ◌∙◌, subst}
+use Rattle.std.proofs.Common.{◌≡◌, ℕ, List, IfOk, refl, subst}
 use Rattle.bson_value.specs.Spelling.{document_text}
 use Rattle.entry_model.specs.Spelling.{entry_fields}
 use Rattle.entry_model.specs.declared.entry.Action.TheVariants as actions

@@ -1,5 +1,4 @@
 use Rattle.std.proofs.Common.{ℕ, List, refl, sym, ap, ◌∙◌, subst}
-use Rattle.bson_value.specs.declared.value.Ts.{Ts}
 use Rattle.schedule_model.specs.declared.command.Command.TheVariants as commands
 use Rattle.copy_model.specs.Writes as writes
 use Rattle.history_model.specs.Entries as entries

@@ -1,4 +1,4 @@
-use Rattle.std.proofs.Common.{sym, ap, ◌∙◌}
+use Rattle.std.proofs.Common.{sym, ◌∙◌}
 use Rattle.store_core.proofs.Rows.{not_refused, form_there}
 use Rattle.store_core.proofs.store.Store.index_to_add.Goals as goal
 

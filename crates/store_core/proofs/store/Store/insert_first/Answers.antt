@@ -1,6 +1,4 @@
-use Rattle.std.proofs.Common.{ℕ, List, refl, sym, ap, ◌∙◌, subst}
-use Rattle.bson_value.specs.Spelling.{document_text}
-use Rattle.bson_value.specs.declared.value.Ts.{Ts}
+use Rattle.std.proofs.Common.{refl, sym, ap, ◌∙◌, subst}
 use Rattle.state_model.specs.States.{no_options}
 use Rattle.coll_state.specs.Rows.{Document as Fields, Rows}
 use Rattle.coll_state.specs.Changes.{put, create}

@@ -1,12 +1,8 @@
-use Rattle.std.proofs.Common.{ℕ, List, refl, sym, ap, ◌∙◌, subst}
-use Rattle.bson_value.specs.Spelling.{document_text}
-use Rattle.entry_model.specs.Spelling.{entry_fields}
-use Rattle.entry_model.specs.declared.entry.Action.TheVariants as actions
+use Rattle.std.proofs.Common.{refl, sym, ap, ◌∙◌, subst}
 use Rattle.coll_state.specs.Rows.{Document as Fields, Rows}
 use Rattle.coll_state.specs.Changes.{put}
 use Rattle.schedule_model.specs.declared.command.Command.TheVariants as commands
 use Rattle.schedule_model.specs.declared.command.DocumentCommand.TheVariants as changes
-use Rattle.history_model.specs.Entries.{entry_with}
 use Rattle.history_model.specs.Indexes.{IndexesHold}
 use Rattle.store_log.specs.Logged.{Logged, logged}
 use Rattle.store_core.specs.Stores.{Stored}

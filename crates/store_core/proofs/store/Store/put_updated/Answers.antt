@@ -1,8 +1,7 @@
-use Rattle.std.proofs.Common.{sym, refl, ap, ◌∙◌, subst, Ok}
+use Rattle.std.proofs.Common.{sym, refl, ap, ◌∙◌, subst}
 use Rattle.bson_value.specs.Spelling.{document_text}
 use Rattle.entry_model.specs.Spelling.{entry_fields}
 use Rattle.entry_model.specs.declared.entry.Action.{Action}
-use Rattle.doc_path.specs.declared.parts.Form.{Form}
 use Rattle.schedule_model.specs.declared.command.Command.TheVariants as commands
 use Rattle.schedule_model.specs.declared.command.DocumentCommand.TheVariants as changes
 use Rattle.update_action.specs.Recorded.{action_of}

@@ -1,5 +1,4 @@
 use Rattle.std.proofs.Common.{sym, refl, ap, ◌∙◌, subst, Ok}
-use Rattle.bson_encode.specs.Key.{key_of}
 use Rattle.coll_state.specs.Rows.{Document as Fields, Rows, key_in}
 use Rattle.coll_state.specs.Changes.{put}
 use Rattle.schedule_model.specs.declared.command.Command.TheVariants as commands

@@ -1,4 +1,4 @@
-use Rattle.std.proofs.Common.{refl, sym, ap, ◌∙◌, subst}
+use Rattle.std.proofs.Common.{refl, ap, ◌∙◌, subst}
 use Rattle.bson_value.specs.Spelling.{document_text}
 use Rattle.entry_model.specs.Spelling.{entry_fields}
 use Rattle.schedule_model.specs.declared.command.Command.TheVariants as commands

@@ -1,11 +1,5 @@
-use Rattle.std.proofs.Common.{◌≡◌, ◌<◌, ◌≤◌, ◌^◌, length, List, sym, ap, ◌∙◌, arith}
+use Rattle.std.proofs.Common.{◌≡◌, ◌<◌, ◌≤◌, ◌^◌, length, arith}
 use Rattle.std.proofs.lemmas.Grind.{common_steps}
-use Rattle.bson_value.specs.Spelling.{document_text}
-use Rattle.entry_model.specs.declared.entry.Entry.{Entry}
-use Rattle.entry_model.specs.declared.entry.Action.TheVariants as actions
-use Rattle.entry_model.specs.Spelling.{entry_fields}
-use Rattle.history_model.specs.Entries.{database, entry_with}
-use Rattle.std.specs.Prelude.{codes}
 use Rattle.store_core.proofs.TogetherEffects.{together_made, together_large}
 use Rattle.store_core.proofs.store.Store.together.Goals as goal
 

@@ -8,7 +8,7 @@ use Rattle.schedule_model.specs.declared.refused.Refused.{Refused}
 use Rattle.history_model.specs.Refusals.{rows_in, definitions_in}
 use Rattle.command_refusals.specs.Tests.{rows_refusal}
 use Rattle.command_refusals.proofs.RowTests.{good_told, bad_told, unnamed_told}
-use Rattle.command_refusals.proofs.document_rows.tested.Goals as goal
+use Rattle.command_refusals.proofs.document_rows.document_refusal.Goals as goal
 
 pub returns-then-not-is_good_document : goal.returns-then-not-is_good_document
 returns-then-not-is_good_document c =

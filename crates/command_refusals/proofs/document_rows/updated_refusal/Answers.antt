@@ -5,7 +5,7 @@ use Rattle.update_model.specs.declared.updated.Updated.{Updated}
 use Rattle.schedule_model.specs.declared.refused.Refused.{Refused}
 use Rattle.history_model.specs.Refusals.{rows_in, definitions_in, with_update}
 use Rattle.command_refusals.specs.Tests.{rows_refusal}
-use Rattle.command_refusals.proofs.document_rows.tested_update.Goals as goal
+use Rattle.command_refusals.proofs.document_rows.updated_refusal.Goals as goal
 
 pub returns-in-Some : goal.returns-in-Some
 returns-in-Some c =

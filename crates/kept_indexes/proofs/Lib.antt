@@ -1,0 +1,9 @@
+pub mod Owned
+pub mod Over
+pub mod Moving
+pub mod Tests
+pub mod Entries
+pub mod Clashing
+pub mod Judged
+pub mod Places
+pub mod Built

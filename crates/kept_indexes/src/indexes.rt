@@ -1,0 +1,265 @@
+//! The indexes of several collections.
+ghost use Rattle.std.specs.Prelude.{◌≡◌, [], List, IfOk, IfSome, IfNone, Some, None, false, is_some};
+ghost use Rattle.std.specs.FinMap as map;
+ghost use Rattle.std.specs.Option.{option_copied};
+ghost use Rattle.bson_encode.specs.Key.{key_of};
+ghost use Rattle.bson_value.specs.declared.namespace.NsName.{NsName as Name};
+ghost use Rattle.coll_state.specs.Changes.{put, remove, put_row};
+ghost use Rattle.coll_state.specs.Rows.{Rows, Table, AreSound};
+ghost use Rattle.index_build.specs.Owned.{Holding};
+ghost use Rattle.history_model.specs.Documents.{id_first, is_good_document};
+ghost use Rattle.history_model.specs.Indexes.{IndexesHold};
+ghost use Rattle.history_model.specs.Refusals.{rows_in, definitions_in, with_good, with_update};
+ghost use Rattle.command_refusals.specs.Keyed.{AreKeyed};
+ghost use Rattle.command_refusals.specs.Tests.{rows_refusal};
+ghost use Rattle.state_model.specs.Keys.{same_ns};
+ghost use Rattle.kept_indexes.specs.Kept.{kept_at, StandsAt, IsKept, AreKept, AreElsewhere};
+
+use crate::collection::{KeptCollection, indexes_over, with_document, without_document};
+use crate::verdict::judge_all;
+use bson_value::{Doc, List, NsName, Value};
+use coll_state::State;
+use command_refusals::{all_documents, put_refusal, refusal_by};
+use command_rules::is_good_document;
+use index_build::Index;
+use schedule_model::Refused;
+use std::alloc::{AllocError, Global};
+use std::marker::Model;
+use update_ops::Updated;
+
+/// Indexes of collections. Each collection is kept once or not at all; one that isn't kept is to be looked at document by document.
+#[derive(Drop)]
+pub struct KeptIndexes {
+    collections: List<KeptCollection>,
+}
+
+impl Model for KeptIndexes {
+    ghost use Rattle.std.specs.Prelude.{List};
+    ghost use Rattle.kept_indexes.specs.Kept.{AreApart};
+    ghost use Rattle.std.specs.Coded.{coded_list};
+    ghost use Rattle.kept_indexes.specs.declared.collection.KeptCollection.{KeptCollection};
+    ghost use Rattle.kept_indexes.specs.contracts.collection.KeptCollection as kept;
+
+    ghost Value = { List KeptCollection };
+
+    ghost coded = { coded_list kept.the_row.coded };
+
+    ghost view = { λ k. k.collections };
+
+    ghost invariant = { λ k. AreApart k.collections };
+}
+
+// The built indexes of a collection over its documents; none where it has no definitions or there is no memory.
+fn indexes_of(alloc: Global, state: &State, ns: &NsName) -> Option<List<Index>>
+    requires keyed { AreKeyed state.now }
+    requires hold { IndexesHold state.now }
+    ensures { IfSome result (λ hs. (t : Table) × (map.get state.now.tables ns.now ≡ Some t) × IsKept t hs) }
+{
+    state.is_sound();
+    let defs = state.indexes(ns)?;
+    if defs.is_empty() {
+        return None;
+    }
+    match all_documents(alloc, state, ns) {
+        Ok(docs) => indexes_over(alloc, defs.as_slice(), docs.as_slice()),
+        Err(_) => None,
+    }
+}
+
+// The indexes of a collection, without its name.
+fn indexes_in(collection: KeptCollection) -> List<Index>
+    ensures { result ≡ collection.indexes }
+{
+    collection.indexes
+}
+
+// Whether two names are the same.
+fn is_same(a: &NsName, b: &NsName) -> bool
+    ensures { result ≡ same_ns a.now b.now }
+{
+    a.cmp(b).is_eq()
+}
+
+impl KeptIndexes {
+    /// Nothing is kept. It takes no memory.
+    pub fn new(alloc: Global) -> KeptIndexes
+        ensures none { result ≡ [] }
+        ensures kept { (r : Rows) → AreKept result r }
+    {
+        KeptIndexes {
+            collections: List::new(alloc),
+        }
+    }
+
+    // Where a collection stands.
+    fn place(&self, ns: &NsName) -> Option<usize>
+        ensures found { IfSome result (λ at. StandsAt self.now ns.now at) }
+        ensures none { IfNone result (kept_at self.now ns.now ≡ None) }
+    {
+        for at in 0..self.collections.len() {
+            if is_same(&self.collections.as_slice()[at].ns, ns) {
+                return Some(at);
+            }
+        }
+        None
+    }
+
+    fn get(&self, ns: &NsName) -> Option<&[Index]>
+        ensures { option_copied result ≡ kept_at self.now ns.now }
+    {
+        match self.place(ns) {
+            Some(at) => Some(self.collections.as_slice()[at].indexes.as_slice()),
+            None => None,
+        }
+    }
+
+    // Takes a collection out.
+    fn take(&mut self, ns: &NsName) -> Option<List<Index>>
+        ensures taken { result ≡ kept_at self.old ns.now }
+        ensures gone { kept_at self.new ns.now ≡ None }
+        ensures others { (n : Name) → same_ns ns.now n ≡ false → kept_at self.new n ≡ kept_at self.old n }
+    {
+        match self.place(ns) {
+            Some(at) => Some(indexes_in(self.collections.remove(at))),
+            None => None,
+        }
+    }
+
+    // Takes a collection in that isn't kept, where there is memory for it.
+    fn add(&mut self, alloc: Global, ns: &NsName, indexes: List<Index>)
+        requires { kept_at self.old ns.now ≡ None }
+        ensures added { (hs : List Holding) → kept_at self.new ns.now ≡ Some hs → hs ≡ indexes }
+        ensures others { (n : Name) → same_ns ns.now n ≡ false → kept_at self.new n ≡ kept_at self.old n }
+    {
+        if let Ok(ns) = ns.copy(alloc) {
+            match self.collections.push(KeptCollection { ns, indexes }) {
+                Ok(()) => {}
+                Err(_) => {}
+            }
+        }
+    }
+
+    /// Why the indexes of a collection refuse a document that is to be put under an `_id`. Where the collection is kept, it
+    /// takes a search for each index and each key of the document; else the time is that of testing all documents.
+    pub fn put_refusal(
+        &self,
+        alloc: Global,
+        state: &State,
+        ns: &NsName,
+        id: &Value,
+        doc: &Doc,
+    ) -> Result<Option<Refused>, AllocError>
+        requires keyed { AreKeyed state.now }
+        requires kept { AreKept self.now state.now }
+        ensures { IfOk result (λ o. o ≡ rows_refusal (Some (put_row 0 (key_of id.now) doc.now (rows_in (map.get state.now.tables ns.now)))) (definitions_in (map.get state.now.tables ns.now))) }
+    {
+        match self.get(ns) {
+            Some(indexes) => {
+                let verdict = judge_all(alloc, indexes, id, doc)?;
+                Ok(refusal_by(verdict.shared, verdict.parallel))
+            }
+            None => put_refusal(alloc, state, ns, id, doc),
+        }
+    }
+
+    /// Why the indexes refuse a document that is to be put, if it may be stored. `first` is the document as it is to be kept.
+    pub fn refusal(
+        &self,
+        alloc: Global,
+        state: &State,
+        ns: &NsName,
+        doc: &Doc,
+        first: &Doc,
+    ) -> Result<Option<Refused>, AllocError>
+        requires keyed { AreKeyed state.now }
+        requires kept { AreKept self.now state.now }
+        requires first { first.now ≡ id_first doc.now }
+        ensures { IfOk result (λ o. o ≡ rows_refusal (with_good (is_good_document doc.now) doc.now (rows_in (map.get state.now.tables ns.now))) (definitions_in (map.get state.now.tables ns.now))) }
+    {
+        if !is_good_document(doc) {
+            return Ok(None);
+        }
+        match doc.get("_id") {
+            Some(id) => self.put_refusal(alloc, state, ns, id, first),
+            None => Ok(None),
+        }
+    }
+
+    /// Why the indexes refuse the document that an update makes, where it makes one.
+    pub fn updated_refusal(
+        &self,
+        alloc: Global,
+        state: &State,
+        ns: &NsName,
+        id: &Value,
+        updated: Option<&Updated>,
+    ) -> Result<Option<Refused>, AllocError>
+        requires keyed { AreKeyed state.now }
+        requires kept { AreKept self.now state.now }
+        ensures { IfOk result (λ o. o ≡ rows_refusal (with_update id.now (option_copied updated.entry) (rows_in (map.get state.now.tables ns.now))) (definitions_in (map.get state.now.tables ns.now))) }
+    {
+        match updated {
+            Some(updated) => self.put_refusal(alloc, state, ns, id, &updated.doc),
+            None => Ok(None),
+        }
+    }
+
+    // Whether a collection is kept.
+    fn has(&self, ns: &NsName) -> bool
+        ensures { result ≡ is_some (kept_at self.now ns.now) }
+    {
+        self.get(ns).is_some()
+    }
+
+    /// Takes the indexes of a collection in, built over all of its documents, where it has some that isn't kept yet, and where
+    /// there is memory.
+    pub fn keep(&mut self, alloc: Global, state: &State, ns: &NsName)
+        requires keyed { AreKeyed state.now }
+        requires hold { IndexesHold state.now }
+        requires kept { AreKept self.old state.now }
+        ensures { AreKept self.new state.now }
+    {
+        if self.has(ns) {
+            return;
+        }
+        if let Some(indexes) = indexes_of(alloc, state, ns) {
+            self.add(alloc, ns, indexes);
+        }
+    }
+
+    /// Follows a put of a document that the indexes allow. Without memory for it the collection isn't kept any more.
+    pub fn put(&mut self, alloc: Global, ns: &NsName, doc: &Doc)
+        ensures { (r : Rows) → AreKept self.old r → AreSound r → IndexesHold (put ns.now doc.now r) → AreKept self.new (put ns.now doc.now r) }
+    {
+        if let Some(indexes) = self.take(ns) {
+            if let Some(indexes) = with_document(alloc, indexes, doc) {
+                self.add(alloc, ns, indexes);
+            }
+        }
+    }
+
+    /// Follows a removal. Without memory for it the collection isn't kept any more.
+    pub fn remove(&mut self, alloc: Global, ns: &NsName, id: &Value)
+        ensures { (r : Rows) → AreKept self.old r → IndexesHold (remove ns.now (key_of id.now) r) → AreKept self.new (remove ns.now (key_of id.now) r) }
+    {
+        if let Some(indexes) = self.take(ns) {
+            if let Some(indexes) = without_document(alloc, indexes, id) {
+                self.add(alloc, ns, indexes);
+            }
+        }
+    }
+
+    /// The collection isn't kept any more.
+    pub fn forget(&mut self, ns: &NsName)
+        ensures { (r s : Rows) → AreKept self.old r → AreElsewhere ns.now r s → AreKept self.new s }
+    {
+        let _ = self.take(ns);
+    }
+
+    /// No collection is kept any more.
+    pub fn clear(&mut self)
+        ensures { (r : Rows) → AreKept self.new r }
+    {
+        self.collections.truncate(0);
+    }
+}
