@@ -1,6 +1,6 @@
 -- None of the takings of a dump's archive is refused.
 use Rattle.std.proofs.Common.{◌≡◌, ℕ, List, [], ◌∷◌, ◌++◌, Bool, true, false, cond, refl, sym, ap, ◌∙◌, subst, Option, Some, None}
-use Rattle.std.specs.Prelude.{map as each, Ok, is_some, if◌then◌else◌}
+use Rattle.std.specs.Prelude.{map as each, is_some, if◌then◌else◌}
 use Rattle.std.specs.Result.{result_unwrap_or}
 use Rattle.std.specs.FinMap as map
 use Rattle.std.proofs.lemmas.Slice.Eq.{bytes_eq-Decides}
@@ -11,7 +11,7 @@ use Rattle.doc_path.specs.Played.{id_name}
 use Rattle.entry_model.specs.Spelling.{entry_fields}
 use Rattle.metadata_text.specs.Metadata.{Meta}
 use Rattle.state_model.specs.Moves.{Move}
-use Rattle.state_model.specs.States.{State, Collection}
+use Rattle.state_model.specs.States.{Collection}
 use Rattle.coll_state.specs.Rows.{Document as Fields, Row, Table, Rows, id_of}
 use Rattle.archive_format.specs.Shapes.{is_oplog}
 use Rattle.archive_format.specs.Archive.{Taking, doc}
@@ -26,9 +26,9 @@ use Rattle.history_model.specs.Entries.{OplogEntry, entry_at, entry_bytes}
 use Rattle.history_model.specs.Runs.{Step, Documents, Entries, run}
 use Rattle.history_model.specs.Histories.{reads, sent_in, is_before}
 use Rattle.history_model.specs.Laws.{DoneIsHealedBefore}
-use Rattle.dump_model.specs.Archives.{oplog, metadata_of, metas_of, document_texts, all_pieces}
+use Rattle.dump_model.specs.Archives.{oplog, metadata_of, document_texts, all_pieces}
 use Rattle.recorded_entries.specs.Good.{IsGoodDocument}
-use Rattle.recorded_entries.specs.Kept.{IsKeptRow, AreKeptRows, AreKept}
+use Rattle.recorded_entries.specs.Kept.{AreKeptRows, AreKept}
 use Rattle.recorded_entries.proofs.RunGood.{recorded_good}
 use Rattle.entry_bytes.proofs.Decoded.{documents_are_read, entries_are_read}
 use Rattle.dump_steps.specs.Steps.{AreStepsOf}

@@ -1,18 +1,14 @@
 -- A restore of a dump's archive makes the state before its limit.
-use Rattle.std.proofs.Common.{◌≡◌, List, [], sym, ap, ◌∙◌, subst}
+use Rattle.std.proofs.Common.{◌≡◌, [], sym, ◌∙◌, subst}
 use Rattle.state_model.specs.States.{State}
-use Rattle.state_model.specs.Moves.{Move}
 use Rattle.state_model.specs.Replay.{replay_all}
 use Rattle.state_model.specs.Agreement.{SameStates}
-use Rattle.state_model.specs.Cut.{cut, taken}
+use Rattle.state_model.specs.Cut.{cut}
 use Rattle.state_model.specs.Laws.{CutReplay, SameIsShownAlike}
 use Rattle.copy_model.specs.Copies.{copy_of}
 use Rattle.copy_model.proofs.Filtered.{same_cut}
-use Rattle.entry_model.specs.Edits.{gathered}
-use Rattle.replay.specs.Moves.{moves_of}
 use Rattle.restore_filter.specs.Names.{takes}
-use Rattle.restore_plan.specs.Base.{base, entries, played, restored}
-use Rattle.restore_plan.specs.Taken.{finished}
+use Rattle.restore_plan.specs.Base.{restored}
 use Rattle.history_model.specs.Runs.{run}
 use Rattle.history_model.specs.Histories.{at, reads}
 use Rattle.history_model.specs.Recordings.{reads_in}
@@ -34,6 +30,4 @@ heals again base_is entries_are replayed alike s d h p r ts c =
 
 pub finish_heals : ArchiveHeals → FinishHeals
 finish_heals law s d h p r held t =
-    let ts = t.0 in
-    let made : finished held ≡ restored p ts = (λ i. played (t.3 i) (t.2 i)) in
-    subst (λ (x : State). SameStates x (cut (takes p.filter) (at s p.limit))) (sym made) (law s d h p r ts t.1.0).same
+    subst (λ (x : State). SameStates x (cut (takes p.filter) (at s p.limit))) (sym t.2) (law s d h p r t.0 t.1.0).same

@@ -1,6 +1,6 @@
 -- The moves of what is kept of an entry.
 use Rattle.std.proofs.Common.{◌≡◌, Bool, true, false, cond, List, [], ◌∷◌, ◌++◌, map, refl, sym, ap, ◌∙◌, append_assoc, subst, Option, Some, None}
-use Rattle.std.specs.Prelude.{⊤, filter, ◌||◌, if◌then◌else◌}
+use Rattle.std.specs.Prelude.{filter, ◌||◌, if◌then◌else◌}
 use Rattle.std.specs.Str.{bytes_eq}
 use Rattle.std.specs.Prelude.{codes}
 use Rattle.bson_value.specs.declared.namespace.NsName.{NsName}
@@ -16,11 +16,11 @@ use Rattle.state_model.specs.Cut.{takes_move, taken}
 use Rattle.coll_state.specs.Rows.{Document, id_of}
 use Rattle.coll_state.specs.Definitions.{definition_name}
 use Rattle.entry_model.specs.declared.entry.Entry.{Entry}
-use Rattle.entry_model.specs.declared.entry.Action.{Action, out-Action}
+use Rattle.entry_model.specs.declared.entry.Action.{out-Action}
 use Rattle.entry_model.specs.declared.entry.Action.TheVariants.{Group, outs-Group}
 use Rattle.entry_model.specs.declared.entry.Action.TheOpen.{Action-F}
 use Rattle.entry_model.specs.Edits.{gathered}
-use Rattle.replay.specs.Moves.{Step, is_config, put_moves, deltas, normal_of, definition_moves, moves_at, steps_of, moves_of}
+use Rattle.replay.specs.Moves.{Step, is_config, put_moves, deltas, normal_of, definition_moves, steps_of, moves_of}
 use Rattle.replay.proofs.Folds.{Level, steps_below, steps_is}
 use Rattle.restore_filter.specs.Rules.{Rules}
 use Rattle.restore_filter.specs.Names.{takes}

@@ -1,3 +1,5 @@
 mod Cuts
 mod Plays
 mod Readings
+pub mod Documents
+pub mod Acts

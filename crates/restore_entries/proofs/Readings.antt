@@ -8,7 +8,6 @@ use Rattle.entry_model.specs.Written.{Fields}
 use Rattle.entry_model.specs.Reading.{Read, head_of, entry_of}
 use Rattle.oplog_entry.specs.Answers.{Fails}
 use Rattle.restore_filter.specs.Rules.{Rules}
-use Rattle.restore_entries.specs.declared.reading.EntryReading.{EntryReading}
 use Rattle.restore_entries.specs.declared.reading.EntryReading.TheVariants.{Passed, Unreadable}
 use Rattle.restore_entries.specs.Oplog.{Head, is_asked, at_fault, at_head, from_head, reading_of}
 

@@ -1,3 +1,4 @@
 pub mod Cut
+pub mod Documents
 pub mod Oplog
 pub mod Laws

@@ -9,4 +9,4 @@ mod replaying;
 pub use cut::takes_entry;
 pub use laws::cut_is_taken;
 pub use reading::{EntryReading, read_entry};
-pub use replaying::replay_entries;
+pub use replaying::{changes_document, replay_document, replay_entries};

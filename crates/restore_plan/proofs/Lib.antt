@@ -1,5 +1,9 @@
 pub mod Reasons
 pub mod Outcomes
+mod Tests
+mod Order
+mod Apart
+mod Ripeness
 mod Steps
 mod LastFaults
 pub mod Endings

@@ -1,9 +1,6 @@
 -- The outcome of an input: there is one, and what a run tells shows it.
-use Rattle.std.proofs.Common.{◌≡◌, ℕ, Bool, true, false, List, [], ◌∷◌, ◌++◌, take, length, ◌≤◌, arith, refl, sym, ap, subst, ◌∙◌, cond, inl, inr, append_assoc, append-nil}
-use Rattle.std.specs.Prelude.{Option, Some, None, IsSome, nat_lt, filter, fold, ◌&&◌, ◌==◌, bytes_eq}
-use Rattle.std.specs.Cmp.{unsigned_Decides}
-use Rattle.std.proofs.lemmas.Slice.Eq.{bytes_eq-Decides}
-use Rattle.std.specs.FinMap as map
+use Rattle.std.proofs.Common.{◌≡◌, ℕ, Bool, true, List, [], ◌∷◌, ◌++◌, take, length, ◌≤◌, arith, refl, sym, ap, subst, ◌∙◌, inl, inr}
+use Rattle.std.specs.Prelude.{Option, Some, None, IsSome, nat_lt, fold, ◌==◌}
 use Rattle.bson_value.specs.declared.value.Ts.{Ts}
 use Rattle.bson_value.specs.declared.namespace.NsName.{NsName}
 use Rattle.archive_format.specs.declared.fault.FormatFault.{FormatFault}
@@ -13,13 +10,15 @@ use Rattle.demux.specs.declared.fault.DemuxFault.TheVariants as faults
 use Rattle.tool_io.specs.Causes.{Rose}
 use Rattle.demux.specs.Told.{Reach, Whole, Wrong, Stop as Stopped, Fault_told, End_told}
 use Rattle.state_model.specs.States.{State}
-use Rattle.entry_model.specs.Edits.{gathered}
 use Rattle.restore_plan.specs.declared.plan.Plan.{Plan}
 use Rattle.restore_plan.specs.declared.fault.RestoreFault.{RestoreFault}
 use Rattle.restore_plan.specs.declared.fault.RestoreFault.TheVariants.{Metadata, NoId, Entry as Unread}
-use Rattle.restore_plan.specs.Base.{is_of_base, base_step, entries_in, restored, bad_at, or_later, first_bad}
-use Rattle.restore_plan.specs.Taken.{Contents, and_taking, with_taking, unless_bad, count_of, is_no_id, is_metadata, same_ts, is_unread, is_same, same_fault}
+use Rattle.restore_plan.specs.Base.{restored, bad_at, or_later, first_bad}
+use Rattle.restore_plan.specs.Taken.{Contents, nothing, and_taking, with_taking, unless_bad, count_of, is_no_id, is_metadata, same_ts, is_unread, is_same, same_fault}
+use Rattle.restore_plan.proofs.Tests.{both, same_numbers, same_names}
 use Rattle.restore_plan.proofs.Reasons.{refused_alike}
+use Rattle.restore_plan.proofs.Order.{ends_are_last}
+use Rattle.restore_plan.proofs.Ripeness.{nothing_missed}
 use Rattle.restore_plan.specs.Outcome.{Outcome, restores, refuses, fails, met_at_end, IsAccepted, TakesAll, StopsAt, IsOutcome, IsReadTo, IsRefused, IsUnsettled, OnInput}
 
 -- ---- one outcome
@@ -112,20 +111,6 @@ pub first_bad-append : (p : Plan) (ts us : List Taking) → first_bad p ts ≡ N
 first_bad-append p [] us e = refl
 first_bad-append p (t ∷ ts) us e = behind (bad_at p t) p ts us (first_bad-append p ts us) e
 
-both : (a b : Bool) → (a && b) ≡ true → (a ≡ true) × (b ≡ true)
-both true b e = (refl, e)
-both false b e = cc
-
-same_names : (n m : NsName) → same_ns n m ≡ true → n ≡ m
-same_names n m e =
-    let k = both (bytes_eq n.db m.db) (bytes_eq n.coll m.coll) e in
-    let d : n.db ≡ m.db = (bytes_eq-Decides n.db m.db).0 k.0 in
-    let c : n.coll ≡ m.coll = (bytes_eq-Decides n.coll m.coll).0 k.1 in
-    λ i. record { db = d i; coll = c i }
-
-same_numbers : (a b : ℕ) → (a == b) ≡ true → a ≡ b
-same_numbers a b e = (unsigned_Decides a b).0 e
-
 same_stamps : (a b : Option Ts) → same_ts a b ≡ true → a ≡ b
 same_stamps None None e = refl
 same_stamps None (Some b) e = cc
@@ -171,38 +156,29 @@ none_taken p (t ∷ given) = none_taken p given
 -- what was made of what was given: none of it was refused
 pub record Made (p : Plan) (c0 c : Contents) (given : List Taking) : Type 0 where
   pub fine : first_bad p given ≡ None
-  pub state : c.state ≡ fold (base_step p) c0.state (filter (is_of_base p) given)
-  pub entries : c.entries ≡ c0.entries ++ gathered (entries_in p) given
-
-stepped : (p : Plan) (b : Bool) (t : Taking) (s0 : State) (ts : List Taking) → fold (base_step p) (cond b (base_step p s0 t) s0) ts ≡ fold (base_step p) s0 (cond b (t ∷ ts) ts)
-stepped p true t s0 ts = refl
-stepped p false t s0 ts = refl
+  pub contents : c ≡ fold (with_taking p) c0 given
 
 pub made_of : (p : Plan) (given : List Taking) (c0 c : Contents) → Some c ≡ fold (and_taking p) (Some c0) given → Made p c0 c given
-made_of p [] c0 c e =
-    let is : c ≡ c0 = cc in
-    record { fine = refl; state = ap (λ x. x.state) is; entries = ap (λ x. x.entries) is ∙ sym (append-nil c0.entries) }
+made_of p [] c0 c e = record { fine = refl; contents = cc }
 made_of p (t ∷ given) c0 c e = go (bad_at p t) refl (λ c1 f. made_of p given c1 c f)
   where
     go : (o : Option RestoreFault) → bad_at p t ≡ o → ((c1 : Contents) → Some c ≡ fold (and_taking p) (Some c1) given → Made p c1 c given) → Made p c0 c (t ∷ given)
     go None is on =
         let later = on (with_taking p c0 t) (e ∙ ap (λ o. fold (and_taking p) (unless_bad o (with_taking p c0 t)) given) is) in
-        record {
-          fine = ap (λ o. or_later o (first_bad p given)) is ∙ later.fine;
-          state = later.state ∙ stepped p (is_of_base p t) t c0.state (filter (is_of_base p) given);
-          entries = later.entries ∙ append_assoc c0.entries (entries_in p t) (gathered (entries_in p) given);
-        }
+        record { fine = ap (λ o. or_later o (first_bad p given)) is ∙ later.fine; contents = later.contents }
     go (Some r) is on =
         let none : Some c ≡ None = e ∙ (ap (λ o. fold (and_taking p) (unless_bad o (with_taking p c0 t)) given) is ∙ none_taken p given) in absurd cc
 
-module _ (p : Plan) (c0 c : Contents) (begins : c0 ≡ record { state = map.empty; entries = [] }) where
-  made : (given : List Taking) → Some c ≡ fold (and_taking p) (Some c0) given → Made p (record { state = map.empty; entries = [] }) c given
-  made given e = made_of p given (record { state = map.empty; entries = [] }) c (e ∙ ap (λ (x : Contents). fold (and_taking p) (Some x) given) begins)
+module _ (p : Plan) (c0 c : Contents) (begins : c0 ≡ nothing) where
+  made : (given : List Taking) → Some c ≡ fold (and_taking p) (Some c0) given → Made p nothing c given
+  made given e = made_of p given nothing c (e ∙ ap (λ (x : Contents). fold (and_taking p) (Some x) given) begins)
 
   pub takes_all : (all : List ℕ) → Whole all None (and_taking p) (Some (Some c0)) (Some (Some c)) → TakesAll p all c
   takes_all all w =
       let m = made w.given w.took in
-      (w.given, (ends_content all w.given w.ends, m.fine), m.state, m.entries)
+      let content = ends_content all w.given w.ends in
+      let n = nothing_missed p w.given c m.contents (ends_are_last all w.given content) in
+      (w.given, (content, m.fine), n.0, n.1)
 
   -- what was given is of the front, and none of it is refused
   abbrev read_to : (all : List ℕ) (now : Option (List ℕ)) (given : List Taking) → Some c ≡ fold (and_taking p) (Some c0) given → Reach all now given → IsReadTo p all now

@@ -1,7 +1,6 @@
 -- Whether a taking is refused depends on the plan; why it is doesn't.
-use Rattle.std.proofs.Common.{◌≡◌, ℕ, Bool, true, false, cond, List, [], refl, sym, ap, ◌∙◌, Option, Some, None}
+use Rattle.std.proofs.Common.{◌≡◌, ℕ, Bool, true, false, cond, List, refl, sym, ap, ◌∙◌, Option, Some, None}
 use Rattle.std.specs.Prelude.{Ok, Err}
-use Rattle.std.specs.FinMap as map
 use Rattle.bson_value.specs.declared.value.Ts.{Ts}
 use Rattle.bson_value.specs.declared.namespace.NsName.{NsName}
 use Rattle.entry_model.specs.declared.entry.Entry.{Entry}
@@ -18,7 +17,7 @@ use Rattle.restore_plan.specs.declared.plan.Plan.{Plan}
 use Rattle.restore_plan.specs.declared.fault.RestoreFault.{RestoreFault}
 use Rattle.restore_plan.specs.declared.fault.RestoreFault.TheVariants.{Entry as Unread}
 use Rattle.restore_plan.specs.Base.{document_taken, has_id, oplog_reading, id_fault, entry_fault, bad_at}
-use Rattle.restore_plan.specs.Taken.{Contents, with_taking, unless_bad, and_taking}
+use Rattle.restore_plan.specs.Taken.{Contents, nothing, with_taking, unless_bad, and_taking}
 
 -- ---- the timestamp with which a document of the oplog is refused
 
@@ -73,12 +72,9 @@ one_reason p q (end n) f g e h = cc
 pub refused_alike : (p q : Plan) (t : Taking) (f : RestoreFault) → and_taking q ≡ and_taking p → bad_at q t ≡ Some f → bad_at p t ≡ Some f
 refused_alike p q t f same is = go (bad_at p t) refl
   where
-    before : Contents
-    before = record { state = map.empty; entries = [] }
-
-    none : None ≡ and_taking p (Some before) t
-    none = sym (ap (λ o. unless_bad o (with_taking q before t)) is) ∙ ap (λ (a : Option Contents → Taking → Option Contents). a (Some before) t) same
+    none : None ≡ and_taking p (Some nothing) t
+    none = sym (ap (λ o. unless_bad o (with_taking q nothing t)) is) ∙ ap (λ (a : Option Contents → Taking → Option Contents). a (Some nothing) t) same
 
     go : (o : Option RestoreFault) → bad_at p t ≡ o → bad_at p t ≡ Some f
-    go None fine = let never : None ≡ Some (with_taking p before t) = none ∙ ap (λ o. unless_bad o (with_taking p before t)) fine in absurd cc
+    go None fine = let never : None ≡ Some (with_taking p nothing t) = none ∙ ap (λ o. unless_bad o (with_taking p nothing t)) fine in absurd cc
     go (Some g) e = e ∙ ap Some (one_reason p q t g f e is)

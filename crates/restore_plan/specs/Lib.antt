@@ -1,5 +1,6 @@
 pub mod Faults
 pub mod Base
+pub mod Order
 pub mod Taken
 pub mod Outcome
 pub mod Laws

@@ -6,8 +6,8 @@ use Rattle.demux.specs.Told.{Reach}
 use Rattle.state_model.specs.States.{State}
 use Rattle.restore_plan.specs.declared.plan.Plan.{Plan}
 use Rattle.restore_plan.specs.declared.fault.RestoreFault.{RestoreFault}
-use Rattle.restore_plan.specs.Base.{base, entries, restored, first_bad, bad_at, or_later}
-use Rattle.restore_plan.specs.Taken.{Contents, first_unknown, index_fault}
+use Rattle.restore_plan.specs.Base.{entries, restored, first_bad, bad_at, or_later}
+use Rattle.restore_plan.specs.Taken.{Contents, finished, first_unknown, index_fault}
 
 pub data Outcome : Type 0 where
   restores : State → Outcome
@@ -22,9 +22,9 @@ met_at_end p ts = or_later (first_unknown (entries p ts)) (index_fault (restored
 abbrev pub IsAccepted : Plan → List ℕ → List Taking → Type 0
 IsAccepted p bytes ts = Content bytes ts × (first_bad p ts ≡ None)
 
--- all takings of such an archive were taken
+-- all takings of such an archive were taken: what waits makes of the state what all entries make of the base
 abbrev pub TakesAll : Plan → List ℕ → Contents → Type 0
-TakesAll p bytes c = (ts : List Taking) × IsAccepted p bytes ts × (c.state ≡ base p ts) × (c.entries ≡ entries p ts)
+TakesAll p bytes c = (ts : List Taking) × IsAccepted p bytes ts × (finished c ≡ restored p ts) × (first_unknown c.entries ≡ first_unknown (entries p ts))
 
 -- such an archive, of which this is met at the end
 abbrev pub FailsAtEnd : Plan → List ℕ → RestoreFault → Type 0

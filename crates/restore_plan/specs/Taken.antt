@@ -1,12 +1,22 @@
 -- What a restore makes of its takings, as it takes them, and what it makes of all at the end.
-use Rattle.std.specs.Prelude.{ℕ, List, ◌++◌, map as each, Bool, true, false, ◌&&◌, ◌==◌, Option, Some, None, option_map, if◌then◌else◌}
+use Rattle.std.specs.Prelude.{ℕ, List, [], ◌∷◌, ◌++◌, length, fold, map as each, Bool, true, false, not, ◌&&◌, ◌==◌, Option, Some, None, option_map, if◌then◌else◌}
+use Rattle.std.specs.List.{list_any}
+use Rattle.std.specs.BTreeMap.{is_at}
+use Rattle.std.specs.BTreeSet.{insert_key}
+use Rattle.std.specs.FinMap as map
 use Rattle.bson_value.specs.declared.value.Ts.{Ts}
 use Rattle.bson_value.specs.declared.namespace.NsName.{NsName}
-use Rattle.archive_format.specs.Archive.{Taking, same_ns}
+use Rattle.bson_value.specs.NamespaceOrder.{namespace_cmp}
+use Rattle.archive_format.specs.Shapes.{is_oplog}
+use Rattle.archive_format.specs.Archive.{Taking, meta, doc, end, same_ns}
 use Rattle.state_model.specs.States.{State}
+use Rattle.state_model.specs.Replay.{replay_all}
 use Rattle.coll_state.specs.Rows.{state_of}
 use Rattle.entry_model.specs.declared.entry.Entry.{Entry}
+use Rattle.entry_model.specs.declared.entry.Action.{out-Action}
+use Rattle.replay.specs.Moves.{moves_of}
 use Rattle.replay.specs.Refusals.{first, first_refused}
+use Rattle.restore_entries.specs.Documents.{is_of_document}
 use Rattle.index_build.specs.Faults.{fault}
 use Rattle.restore_plan.specs.declared.plan.Plan.{Plan}
 use Rattle.restore_plan.specs.declared.fault.RestoreFault.{RestoreFault}
@@ -15,17 +25,52 @@ use Rattle.restore_plan.specs.declared.restore.Restore.{Restore}
 use Rattle.restore_plan.specs.Faults.{of_replay, of_indexes}
 use Rattle.restore_plan.specs.Base.{is_of_base, base_step, entries_in, played, bad_at, or_later}
 
--- what was made of the takings so far: a state, and entries to be replayed
+-- what was made of the takings so far: a state, the entries that wait to be replayed on it, and the namespaces that were ended, in their order
 pub record Contents : Type 0 where
   pub state : State
   pub entries : List Entry
+  pub ended : List NsName
+
+abbrev pub nothing : Contents
+nothing = record { state = map.empty; entries = []; ended = [] }
 
 abbrev pub contents_of : Restore → Contents
-contents_of r = record { state = state_of r.state; entries = r.entries }
+contents_of r = record { state = state_of r.state; entries = r.entries; ended = r.ended.keys }
 
--- with one taking more
+-- ---- entries that are replayed as they come
+
+-- entries are replayed, and no namespace gets the name of another
+abbrev pub plays_early : Plan → Bool
+plays_early p = p.replaying && length p.filter.renames == 0
+
+abbrev pub is_ended : NsName → List NsName → Bool
+is_ended n ns = list_any (is_at (namespace_cmp n)) ns
+
+-- an entry needn't wait where none waits before it, and it changes a document of a namespace that was ended
+abbrev pub is_ripe : Contents → Entry → Bool
+is_ripe c e = length c.entries == 0 && is_of_document (out-Action e.action) && is_ended e.ns c.ended
+
+abbrev pub with_entry : Contents → Entry → Contents
+with_entry c e = if is_ripe c e then record c { state = replay_all (moves_of e) c.state } else record c { entries = c.entries ++ e ∷ [] }
+
+-- an end is noted of a collection that is there
+abbrev pub is_noted : Plan → State → NsName → Bool
+is_noted p s n = not (is_oplog n) && plays_early p && map.contains_key s n
+
+abbrev pub ended_with : Plan → Contents → Taking → List NsName
+ended_with p c (meta n t) = c.ended
+ended_with p c (doc n b) = c.ended
+ended_with p c (end n) = if is_noted p c.state n then insert_key namespace_cmp c.ended n else c.ended
+
+-- ---- takings
+
+-- the state and the ends with one taking more
+abbrev pub with_collection : Plan → Contents → Taking → Contents
+with_collection p c t = record { state = (if is_of_base p t then base_step p c.state t else c.state); entries = c.entries; ended = ended_with p c t }
+
+-- the same, and the entries
 abbrev pub with_taking : Plan → Contents → Taking → Contents
-with_taking p c t = record { state = (if is_of_base p t then base_step p c.state t else c.state); entries = c.entries ++ entries_in p t }
+with_taking p c t = fold with_entry (with_collection p c t) (entries_in p t)
 
 abbrev pub unless_bad : Option RestoreFault → Contents → Option Contents
 unless_bad None c = Some c

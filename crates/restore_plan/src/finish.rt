@@ -29,7 +29,7 @@ impl Restore {
         self.fault
     }
 
-    /// The state that all takings make, once the entries were replayed in their order, and the numbers of its keys. The restore is
+    /// The state that all takings make, once the entries that waited were replayed in their order, and the numbers of its keys. The restore is
     /// spent. One that stopped answers what it stopped for.
     pub fn finish(self) -> Result<(State, Counts), RestoreFault>
         ensures ok { IfOk result (λ r. state_of r.0 ≡ finished (contents_of self)) }
@@ -43,6 +43,7 @@ impl Restore {
             plan: _,
             mut state,
             entries,
+            ended: _,
             fault,
             starved,
         } = self;

@@ -2,6 +2,7 @@
 #![tactic(auto)]
 
 mod collections;
+mod early;
 mod entries;
 mod fault;
 mod finish;

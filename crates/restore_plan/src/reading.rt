@@ -89,7 +89,7 @@ fn take_all<S: Source>(alloc: Global, plan: Plan, source: &mut S) -> Result<Rest
 }
 
 /// The state that the archive restores to which the source has left, and the numbers of the keys of its indexes. It takes memory for
-/// the state and the entries that are replayed, and for a window of 16,793,600 bytes.
+/// the state, the entries that wait to be replayed, the names of ended namespaces, and for a window of 16,793,600 bytes.
 pub fn restore_archive<S: Source>(
     alloc: Global,
     plan: Plan,

@@ -1,9 +1,9 @@
 //! The restore of an archive, as its takings come.
-ghost use Rattle.std.specs.Prelude.{◌≡◌, ◌++◌, [], IfOk, IfErr, OnOk, OnErr, IsOk, IsErr, Some, None, true, IsSome};
-ghost use Rattle.std.specs.FinMap as map;
-ghost use Rattle.restore_plan.specs.Taken.{contents_of, Contents, stops_of, starved_of};
+ghost use Rattle.std.specs.Prelude.{◌≡◌, ◌++◌, IfOk, IfErr, OnOk, OnErr, IsOk, IsErr, Some, None, true, IsSome};
+ghost use Rattle.restore_plan.specs.Taken.{contents_of, Contents, nothing, stops_of, starved_of};
 
 use crate::collections::has_id;
+use crate::early::note_end;
 use crate::entries::read_oplog;
 use crate::fault::RestoreFault;
 use crate::plan::Plan;
@@ -17,15 +17,17 @@ use metadata_text::{MetaFault, metadata_of};
 use restore_entries::EntryReading;
 use restore_filter::Filter;
 use std::alloc::{AllocError, Global};
+use std::collections::BTreeSet;
 
-/// Makes a state of what an archive holds, a taking at a time, and keeps the entries that are to be replayed on it. It stops at the
-/// first taking that it refuses.
+/// Makes a state of what an archive holds, a taking at a time. An entry of the oplog is replayed on it as soon as nothing can come that
+/// stands before it, and is kept until then. It stops at the first taking that it refuses.
 #[derive(Drop)]
 pub struct Restore {
     pub(crate) alloc: Global,
     pub(crate) plan: Plan,
     pub(crate) state: State,
     pub(crate) entries: List<Entry>,
+    pub(crate) ended: BTreeSet<NsName>,
     pub(crate) fault: Option<RestoreFault>,
     pub(crate) starved: bool,
 }
@@ -34,7 +36,7 @@ impl Restore {
     /// A restore of which nothing was taken yet. Entries act on the names that they have, also beside pairs that rename.
     pub fn new(alloc: Global, filter: Filter, replaying: bool, limit: Option<Ts>) -> Restore
         ensures plan { result.plan ≡ record { filter = filter; replaying = replaying; limit = limit } }
-        ensures contents { contents_of result ≡ record { state = map.empty; entries = [] } }
+        ensures contents { contents_of result ≡ nothing }
         ensures stops { stops_of result ≡ 0 }
         ensures starved { starved_of result ≡ 0 }
     {
@@ -47,6 +49,7 @@ impl Restore {
             },
             state: State::new(alloc),
             entries: List::new(alloc),
+            ended: BTreeSet::new(alloc),
             fault: None,
             starved: false,
         }
@@ -151,7 +154,7 @@ impl DocTaker for Restore {
                 Err(_) => Err(self.starve()),
                 Ok(EntryReading::Passed) => Ok(()),
                 Ok(EntryReading::Kept(entry)) => {
-                    let taken = self.entries.push(entry);
+                    let taken = self.take_entry(entry);
                     self.told(taken)
                 }
                 Ok(EntryReading::Unreadable(ts)) => Err(self.stop_at_entry(ts)),
@@ -167,6 +170,10 @@ impl DocTaker for Restore {
     fn end(&mut self, ns: &NsName) -> Result<(), Halt> {
         if is_oplog(ns) {
             return Ok(());
+        }
+        if self.plan.plays_early() && self.state.has(ns) {
+            let noted = note_end(self.alloc, &mut self.ended, ns);
+            return self.told(noted);
         }
         let taken = take_end(self.alloc, &self.plan.filter, &mut self.state, ns);
         self.told(taken)

@@ -7,4 +7,4 @@ use Rattle.restore_plan.proofs.restore.Restore.new.Goals as goal
 pub returns-clause-contents : goal.returns-clause-contents
 returns-clause-contents c =
     let state : state_of c.new.result ≡ map.empty = ap state_of c.new.ensures ∙ nothing_made in
-    λ i. record { state = state i; entries = c.new-2.ensures i }
+    λ i. record { state = state i; entries = c.new-2.ensures i; ended = c.new-3.ensures.empty i }
