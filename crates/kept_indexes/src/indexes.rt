@@ -212,12 +212,14 @@ impl KeptIndexes {
     }
 
     /// Takes the indexes of a collection in, built over all of its documents, where it has some that isn't kept yet, and where
-    /// there is memory.
+    /// there is memory. What is kept already stays as it is.
     pub fn keep(&mut self, alloc: Global, state: &State, ns: &NsName)
         requires keyed { AreKeyed state.now }
         requires hold { IndexesHold state.now }
         requires kept { AreKept self.old state.now }
-        ensures { AreKept self.new state.now }
+        ensures kept { AreKept self.new state.now }
+        ensures stays { (hs : List Holding) → kept_at self.old ns.now ≡ Some hs → kept_at self.new ns.now ≡ Some hs }
+        ensures others { (n : Name) → same_ns ns.now n ≡ false → kept_at self.new n ≡ kept_at self.old n }
     {
         if self.has(ns) {
             return;
@@ -227,9 +229,11 @@ impl KeptIndexes {
         }
     }
 
-    /// Follows a put of a document that the indexes allow. Without memory for it the collection isn't kept any more.
+    /// Follows a put of a document that the indexes allow. Without memory for it the collection isn't kept any more; the others
+    /// stay as they are.
     pub fn put(&mut self, alloc: Global, ns: &NsName, doc: &Doc)
-        ensures { (r : Rows) → AreKept self.old r → AreSound r → IndexesHold (put ns.now doc.now r) → AreKept self.new (put ns.now doc.now r) }
+        ensures kept { (r : Rows) → AreKept self.old r → AreSound r → IndexesHold (put ns.now doc.now r) → AreKept self.new (put ns.now doc.now r) }
+        ensures others { (n : Name) → same_ns ns.now n ≡ false → kept_at self.new n ≡ kept_at self.old n }
     {
         if let Some(indexes) = self.take(ns) {
             if let Some(indexes) = with_document(alloc, indexes, doc) {
@@ -238,9 +242,10 @@ impl KeptIndexes {
         }
     }
 
-    /// Follows a removal. Without memory for it the collection isn't kept any more.
+    /// Follows a removal. Without memory for it the collection isn't kept any more; the others stay as they are.
     pub fn remove(&mut self, alloc: Global, ns: &NsName, id: &Value)
-        ensures { (r : Rows) → AreKept self.old r → IndexesHold (remove ns.now (key_of id.now) r) → AreKept self.new (remove ns.now (key_of id.now) r) }
+        ensures kept { (r : Rows) → AreKept self.old r → IndexesHold (remove ns.now (key_of id.now) r) → AreKept self.new (remove ns.now (key_of id.now) r) }
+        ensures others { (n : Name) → same_ns ns.now n ≡ false → kept_at self.new n ≡ kept_at self.old n }
     {
         if let Some(indexes) = self.take(ns) {
             if let Some(indexes) = without_document(alloc, indexes, id) {
@@ -249,9 +254,11 @@ impl KeptIndexes {
         }
     }
 
-    /// The collection isn't kept any more.
+    /// The collection isn't kept any more; the others stay as they are.
     pub fn forget(&mut self, ns: &NsName)
-        ensures { (r s : Rows) → AreKept self.old r → AreElsewhere ns.now r s → AreKept self.new s }
+        ensures kept { (r s : Rows) → AreKept self.old r → AreElsewhere ns.now r s → AreKept self.new s }
+        ensures gone { kept_at self.new ns.now ≡ None }
+        ensures others { (n : Name) → same_ns ns.now n ≡ false → kept_at self.new n ≡ kept_at self.old n }
     {
         let _ = self.take(ns);
     }
