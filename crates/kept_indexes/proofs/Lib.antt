@@ -5,5 +5,4 @@ pub mod Tests
 pub mod Entries
 pub mod Clashing
 pub mod Judged
-pub mod Places
 pub mod Built

@@ -13,8 +13,7 @@ use Rattle.coll_state.specs.Changes.{Tables, put_table, drop_table, or_fresh, on
 use Rattle.coll_state.proofs.RowLists.{rising_put, rising_drop}
 use Rattle.index_build.specs.Owned.{Holding}
 use Rattle.history_model.specs.Indexes.{IndexesHold}
-use Rattle.kept_indexes.specs.declared.collection.KeptCollection.{KeptCollection}
-use Rattle.kept_indexes.specs.Kept.{plans_of, IsKept, kept_at, AreKept, AreElsewhere}
+use Rattle.kept_indexes.specs.Kept.{KeptCollections, plans_of, IsKept, kept_at, AreKept, AreElsewhere}
 use Rattle.kept_indexes.specs.Moves.{ArePut, AreTakenOut}
 use Rattle.kept_indexes.proofs.Over.{over_put, over_taken}
 
@@ -32,7 +31,7 @@ abbrev pub KeptIn : Tables → NsName → List Holding → Type 0
 KeptIn ts n hs = (t : Table) × (map.get ts n ≡ Some t) × IsKept t hs
 
 -- all but one stand as before, of which something is kept again
-mostly_kept : (cs cs' : List KeptCollection) (r s : Rows) (n : NsName) → AreKept cs r → AreElsewhere n r s → ((m : NsName) → same_ns n m ≡ false → kept_at cs' m ≡ kept_at cs m) →
+mostly_kept : (cs cs' : KeptCollections) (r s : Rows) (n : NsName) → AreKept cs r → AreElsewhere n r s → ((m : NsName) → same_ns n m ≡ false → kept_at cs' m ≡ kept_at cs m) →
     ((hs : List Holding) → kept_at cs' n ≡ Some hs → KeptIn s.tables n hs) → AreKept cs' s
 mostly_kept cs cs' r s n kept elsewhere others here m hs at = by (cases_Bool (same_ns n m))
   where
@@ -42,11 +41,11 @@ mostly_kept cs cs' r s n kept elsewhere others here m hs at = by (cases_Bool (sa
         subst (λ (z : NsName). KeptIn s.tables z hs) is (here hs (ap (kept_at cs') is ∙ at))
     by (inr e) = (let k = kept m hs (sym (others m e) ∙ at) in (k.0, elsewhere m e ∙ k.1, k.2))
 
-pub more_kept : (cs cs' : List KeptCollection) (r : Rows) (n : NsName) → AreKept cs r → ((m : NsName) → same_ns n m ≡ false → kept_at cs' m ≡ kept_at cs m) →
+pub more_kept : (cs cs' : KeptCollections) (r : Rows) (n : NsName) → AreKept cs r → ((m : NsName) → same_ns n m ≡ false → kept_at cs' m ≡ kept_at cs m) →
     ((hs : List Holding) → kept_at cs' n ≡ Some hs → KeptIn r.tables n hs) → AreKept cs' r
 more_kept cs cs' r n kept others here = mostly_kept cs cs' r r n kept (λ m e. refl) others here
 
-pub elsewhere_keeps : (cs cs' : List KeptCollection) (r s : Rows) (n : NsName) → AreKept cs r → AreElsewhere n r s → kept_at cs' n ≡ None → ((m : NsName) → same_ns n m ≡ false → kept_at cs' m ≡ kept_at cs m) → AreKept cs' s
+pub elsewhere_keeps : (cs cs' : KeptCollections) (r s : Rows) (n : NsName) → AreKept cs r → AreElsewhere n r s → kept_at cs' n ≡ None → ((m : NsName) → same_ns n m ≡ false → kept_at cs' m ≡ kept_at cs m) → AreKept cs' s
 elsewhere_keeps cs cs' r s n kept elsewhere none others = mostly_kept cs cs' r s n kept elsewhere others (λ hs at. absurd (no_some hs (sym none ∙ at)))
   where
     no_some : (hs : List Holding) → None ≡ Some hs → ⊥
@@ -64,7 +63,7 @@ put_there : (n : NsName) (d : Document) (r : Rows) (t : Table) → map.get r.tab
 put_there n d r t e =
     ns_insert_here r.tables n (put_in (key_in (id_of d)) d r (map.get r.tables n)) ∙ ap (λ (o : Option Table). Some (put_in (key_in (id_of d)) d r o)) e
 
-pub put_keeps : (cs cs' : List KeptCollection) (r : Rows) (n : NsName) (d : Document) → AreKept cs r → AreSound r → IndexesHold (put n d r) → ((m : NsName) → same_ns n m ≡ false → kept_at cs' m ≡ kept_at cs m) →
+pub put_keeps : (cs cs' : KeptCollections) (r : Rows) (n : NsName) (d : Document) → AreKept cs r → AreSound r → IndexesHold (put n d r) → ((m : NsName) → same_ns n m ≡ false → kept_at cs' m ≡ kept_at cs m) →
     ((gs : List Holding) → kept_at cs' n ≡ Some gs → (hs : List Holding) × (kept_at cs n ≡ Some hs) × ArePut (key_in (id_of d)) d hs gs) → AreKept cs' (put n d r)
 put_keeps cs cs' r n d kept sound hold others here = mostly_kept cs cs' r (put n d r) n kept (put_elsewhere n d r) others again
   where
@@ -91,7 +90,7 @@ remove_elsewhere n k r m e = by (map.get r.tables n)
 remove_there : (n : NsName) (k : Key) (r : Rows) (t : Table) → map.get r.tables n ≡ Some t → map.get (remove n k r).tables n ≡ Some (drop_table k t)
 remove_there n k r t e = ap (λ (o : Option Table). map.get (on_found (drop_table k) n o r.tables) n) e ∙ ns_insert_here r.tables n (drop_table k t)
 
-pub remove_keeps : (cs cs' : List KeptCollection) (r : Rows) (n : NsName) (k : Key) → AreKept cs r → IndexesHold (remove n k r) → ((m : NsName) → same_ns n m ≡ false → kept_at cs' m ≡ kept_at cs m) →
+pub remove_keeps : (cs cs' : KeptCollections) (r : Rows) (n : NsName) (k : Key) → AreKept cs r → IndexesHold (remove n k r) → ((m : NsName) → same_ns n m ≡ false → kept_at cs' m ≡ kept_at cs m) →
     ((gs : List Holding) → kept_at cs' n ≡ Some gs → (hs : List Holding) × (kept_at cs n ≡ Some hs) × AreTakenOut k hs gs) → AreKept cs' (remove n k r)
 remove_keeps cs cs' r n k kept hold others here = mostly_kept cs cs' r (remove n k r) n kept (remove_elsewhere n k r) others again
   where

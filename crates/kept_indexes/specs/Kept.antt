@@ -1,7 +1,10 @@
 -- What is kept of the indexes of collections, and when it is what an index over their documents has.
-use Rattle.std.specs.Prelude.{⊤, ◌≡◌, ℕ, List, [], ◌∷◌, map as each, true, false, Option, Some, None, if◌then◌else◌, take, slice_get}
+use Rattle.std.specs.Prelude.{⊤, ◌≡◌, List, [], ◌∷◌, map as each, false, Option, Some, None}
+use Rattle.std.specs.BTreeMap.{is_at}
+use Rattle.std.specs.Map.{lookup}
 use Rattle.std.specs.FinMap as map
 use Rattle.bson_value.specs.declared.namespace.NsName.{NsName}
+use Rattle.bson_value.specs.NamespaceOrder.{namespace_cmp}
 use Rattle.json_tree.specs.declared.tree.Tree.{Tree}
 use Rattle.state_model.specs.Keys.{same_ns}
 use Rattle.coll_state.specs.Rows.{Row, Table, Rows, Rising, key_in, id_of}
@@ -10,7 +13,6 @@ use Rattle.index_keys.specs.Definition.{plan_of}
 use Rattle.index_keys.specs.Keys.{Fields, Docs}
 use Rattle.index_build.specs.Owned.{Holding, build}
 use Rattle.history_model.specs.Indexes.{IndexesOf}
-use Rattle.kept_indexes.specs.declared.collection.KeptCollection.{KeptCollection}
 
 -- the documents of rows under their keys
 abbrev pub paired : List Row → Docs
@@ -42,22 +44,16 @@ pub record IsKept (t : Table) (hs : List Holding) : Type 0 where
   pub hold : IndexesOf t
   pub rising : Rising 0 t.rows
 
+-- indexes of collections, by the names of the collections
+abbrev pub KeptCollections : Type 0
+KeptCollections = List (NsName × List Holding)
+
 -- what is kept of a collection
-abbrev pub kept_at : List KeptCollection → NsName → Option (List Holding)
-kept_at [] n = None
-kept_at (c ∷ cs) n = if same_ns c.ns n then Some c.indexes else kept_at cs n
-
--- a collection stands at this place, and not before it
-abbrev pub StandsAt : List KeptCollection → NsName → ℕ → Type 0
-StandsAt cs n at = (c : KeptCollection) × (slice_get cs at ≡ Some c) × (same_ns c.ns n ≡ true) × (kept_at (take at cs) n ≡ None)
-
--- each collection is kept once
-abbrev pub AreApart : List KeptCollection → Type 0
-AreApart [] = ⊤
-AreApart (c ∷ cs) = (kept_at cs c.ns ≡ None) × AreApart cs
+abbrev pub kept_at : KeptCollections → NsName → Option (List Holding)
+kept_at cs n = lookup (is_at (namespace_cmp n)) cs
 
 -- what is kept of each collection are its built indexes
-abbrev pub AreKept : List KeptCollection → Rows → Type 0
+abbrev pub AreKept : KeptCollections → Rows → Type 0
 AreKept cs r = (n : NsName) (hs : List Holding) → kept_at cs n ≡ Some hs → (t : Table) × (map.get r.tables n ≡ Some t) × IsKept t hs
 
 -- all other collections stand as before

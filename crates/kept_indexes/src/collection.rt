@@ -11,19 +11,12 @@ ghost use Rattle.kept_indexes.specs.Kept.{keyed, plans_of, with_plan, AreOver};
 ghost use Rattle.kept_indexes.specs.Moves.{ArePut, AreTakenOut};
 ghost use Rattle.std.specs.FinMap as map;
 
-use bson_value::{Doc, List, NsName, Value};
+use bson_value::{Doc, List, Value};
 use bson_view::Held;
 use index_build::{Index, IndexFault};
 use index_keys::{Plan, Planned};
 use json_tree::Tree;
 use std::alloc::Global;
-
-/// What is kept of a collection: the index of each definition that is built, by the names of the definitions.
-#[derive(Drop)]
-pub struct KeptCollection {
-    pub ns: NsName,
-    pub indexes: List<Index>,
-}
 
 // Whether an index has taken a document in.
 fn is_done(taken: Result<(), IndexFault>) -> bool

@@ -1,5 +1,5 @@
 //! The indexes of several collections.
-ghost use Rattle.std.specs.Prelude.{◌≡◌, [], List, IfOk, IfSome, IfNone, Some, None, false, is_some};
+ghost use Rattle.std.specs.Prelude.{◌≡◌, List, OnOk, OnErr, IfOk, IfSome, Some, None, false, is_some};
 ghost use Rattle.std.specs.FinMap as map;
 ghost use Rattle.std.specs.Option.{option_copied};
 ghost use Rattle.bson_encode.specs.Key.{key_of};
@@ -13,9 +13,9 @@ ghost use Rattle.history_model.specs.Refusals.{rows_in, definitions_in, with_goo
 ghost use Rattle.command_refusals.specs.Keyed.{AreKeyed};
 ghost use Rattle.command_refusals.specs.Tests.{rows_refusal};
 ghost use Rattle.state_model.specs.Keys.{same_ns};
-ghost use Rattle.kept_indexes.specs.Kept.{kept_at, StandsAt, IsKept, AreKept, AreElsewhere};
+ghost use Rattle.kept_indexes.specs.Kept.{kept_at, IsKept, AreKept, AreElsewhere};
 
-use crate::collection::{KeptCollection, indexes_over, with_document, without_document};
+use crate::collection::{indexes_over, with_document, without_document};
 use crate::verdict::judge_all;
 use bson_value::{Doc, List, NsName, Value};
 use coll_state::State;
@@ -24,29 +24,27 @@ use command_rules::is_good_document;
 use index_build::Index;
 use schedule_model::Refused;
 use std::alloc::{AllocError, Global};
+use std::collections::BTreeMap;
 use std::marker::Model;
 use update_ops::Updated;
 
-/// Indexes of collections. Each collection is kept once or not at all; one that isn't kept is to be looked at document by document.
+/// Indexes of collections, by the names of the collections. One that isn't kept is to be looked at document by document.
 #[derive(Drop)]
 pub struct KeptIndexes {
-    collections: List<KeptCollection>,
+    collections: BTreeMap<NsName, List<Index>>,
 }
 
 impl Model for KeptIndexes {
-    ghost use Rattle.std.specs.Prelude.{List};
-    ghost use Rattle.kept_indexes.specs.Kept.{AreApart};
-    ghost use Rattle.std.specs.Coded.{coded_list};
-    ghost use Rattle.kept_indexes.specs.declared.collection.KeptCollection.{KeptCollection};
-    ghost use Rattle.kept_indexes.specs.contracts.collection.KeptCollection as kept;
+    ghost use Rattle.std.specs.Coded.{coded_list, coded×};
+    ghost use Rattle.bson_value.specs.contracts.namespace.NsName as the_name;
+    ghost use Rattle.index_build.specs.contracts.index.Index as the_index;
+    ghost use Rattle.kept_indexes.specs.Kept.{KeptCollections};
 
-    ghost Value = { List KeptCollection };
+    ghost Value = { KeptCollections };
 
-    ghost coded = { coded_list kept.the_row.coded };
+    ghost coded = { coded_list (coded× the_name.the_row.coded (coded_list the_index.the_row.coded)) };
 
-    ghost view = { λ k. k.collections };
-
-    ghost invariant = { λ k. AreApart k.collections };
+    ghost view = { λ k. k.collections.entries };
 }
 
 // The built indexes of a collection over its documents; none where it has no definitions or there is no memory.
@@ -66,49 +64,40 @@ fn indexes_of(alloc: Global, state: &State, ns: &NsName) -> Option<List<Index>>
     }
 }
 
-// The indexes of a collection, without its name.
-fn indexes_in(collection: KeptCollection) -> List<Index>
-    ensures { result ≡ collection.indexes }
+// The indexes under this name, in the place of what is there. Where there is no memory, nothing changes.
+fn set(
+    collections: &mut BTreeMap<NsName, List<Index>>,
+    alloc: Global,
+    ns: &NsName,
+    indexes: List<Index>,
+) -> Result<(), AllocError>
+    ensures set { OnOk result (kept_at collections.new.entries ns.now ≡ Some indexes) }
+    ensures others { OnOk result ((n : Name) → same_ns ns.now n ≡ false → kept_at collections.new.entries n ≡ kept_at collections.old.entries n) }
+    ensures err { OnErr result (collections.new.entries ≡ collections.old.entries) }
 {
-    collection.indexes
-}
-
-// Whether two names are the same.
-fn is_same(a: &NsName, b: &NsName) -> bool
-    ensures { result ≡ same_ns a.now b.now }
-{
-    a.cmp(b).is_eq()
+    let name = ns.copy(alloc)?;
+    match collections.insert(name, indexes) {
+        Ok(_) => Ok(()),
+        Err(_) => Err(AllocError),
+    }
 }
 
 impl KeptIndexes {
     /// Nothing is kept. It takes no memory.
     pub fn new(alloc: Global) -> KeptIndexes
-        ensures none { result ≡ [] }
+        ensures none { (n : Name) → kept_at result n ≡ None }
         ensures kept { (r : Rows) → AreKept result r }
     {
         KeptIndexes {
-            collections: List::new(alloc),
+            collections: BTreeMap::new(alloc),
         }
-    }
-
-    // Where a collection stands.
-    fn place(&self, ns: &NsName) -> Option<usize>
-        ensures found { IfSome result (λ at. StandsAt self.now ns.now at) }
-        ensures none { IfNone result (kept_at self.now ns.now ≡ None) }
-    {
-        for at in 0..self.collections.len() {
-            if is_same(&self.collections.as_slice()[at].ns, ns) {
-                return Some(at);
-            }
-        }
-        None
     }
 
     fn get(&self, ns: &NsName) -> Option<&[Index]>
         ensures { option_copied result ≡ kept_at self.now ns.now }
     {
-        match self.place(ns) {
-            Some(at) => Some(self.collections.as_slice()[at].indexes.as_slice()),
+        match self.collections.get(ns) {
+            Some(indexes) => Some(indexes.as_slice()),
             None => None,
         }
     }
@@ -119,10 +108,7 @@ impl KeptIndexes {
         ensures gone { kept_at self.new ns.now ≡ None }
         ensures others { (n : Name) → same_ns ns.now n ≡ false → kept_at self.new n ≡ kept_at self.old n }
     {
-        match self.place(ns) {
-            Some(at) => Some(indexes_in(self.collections.remove(at))),
-            None => None,
-        }
+        self.collections.remove(ns)
     }
 
     // Takes a collection in that isn't kept, where there is memory for it.
@@ -131,12 +117,7 @@ impl KeptIndexes {
         ensures added { (hs : List Holding) → kept_at self.new ns.now ≡ Some hs → hs ≡ indexes }
         ensures others { (n : Name) → same_ns ns.now n ≡ false → kept_at self.new n ≡ kept_at self.old n }
     {
-        if let Ok(ns) = ns.copy(alloc) {
-            match self.collections.push(KeptCollection { ns, indexes }) {
-                Ok(()) => {}
-                Err(_) => {}
-            }
-        }
+        let _ = set(&mut self.collections, alloc, ns, indexes);
     }
 
     /// Why the indexes of a collection refuse a document that is to be put under an `_id`. Where the collection is kept, it
@@ -267,6 +248,6 @@ impl KeptIndexes {
     pub fn clear(&mut self)
         ensures { (r : Rows) → AreKept self.new r }
     {
-        self.collections.truncate(0);
+        self.collections.clear();
     }
 }

@@ -5,6 +5,5 @@ mod collection;
 mod indexes;
 mod verdict;
 
-pub use collection::KeptCollection;
 pub use indexes::KeptIndexes;
 pub use verdict::Verdict;

@@ -6,8 +6,7 @@ use Rattle.json_tree.specs.declared.tree.Tree.{Tree}
 use Rattle.state_model.specs.Keys.{Key, same_ns}
 use Rattle.coll_state.specs.Rows.{Document, Table, Rows}
 use Rattle.coll_state.specs.Changes.{Tables, on_found, on_there, put, create, drop_ns, add_index, drop_index}
-use Rattle.kept_indexes.specs.declared.collection.KeptCollection.{KeptCollection}
-use Rattle.kept_indexes.specs.Kept.{AreKept, AreElsewhere}
+use Rattle.kept_indexes.specs.Kept.{KeptCollections, AreKept, AreElsewhere}
 use Rattle.kept_indexes.proofs.Moving.{names_differ, names_differ_removed, put_elsewhere}
 
 -- ---- the other collections
@@ -46,5 +45,5 @@ after_taken n i r m e = there _ n r.tables m e
 
 -- ---- what is kept
 
-pub kept_of : (cs : List KeptCollection) (s t : Rows) → s ≡ t → AreKept cs t → AreKept cs s
+pub kept_of : (cs : KeptCollections) (s t : Rows) → s ≡ t → AreKept cs t → AreKept cs s
 kept_of cs s t e k = subst (λ (z : Rows). AreKept cs z) (sym e) k

@@ -29,8 +29,7 @@ use Rattle.history_model.specs.Stages.{Effect, rows_all}
 use Rattle.history_model.specs.Commands.{RecordedWrite, changes_together, effects, grouped, group_of, is_too_large, or_too_large}
 use Rattle.store_log.specs.Logged.{Logged, next_ts, logged}
 use Rattle.store_core.specs.Stores.{Stored, IsSoundStore}
-use Rattle.kept_indexes.specs.declared.collection.KeptCollection.{KeptCollection}
-use Rattle.kept_indexes.specs.Kept.{AreKept}
+use Rattle.kept_indexes.specs.Kept.{KeptCollections, AreKept}
 use Rattle.store_core.specs.Applying.{stage_in}
 use Rattle.store_core.specs.Together.{Trial, IsTogether, MakesTogether, group_effect}
 use Rattle.store_core.specs.declared.transaction.Group.{Group as Made}
@@ -153,7 +152,7 @@ each_length : (cs : List Change) → length (each write_of cs) ≡ length cs
 each_length [] = refl
 each_length (c ∷ cs) = ap suc (each_length cs)
 
-pub sound_changes : {ks js : List KeptCollection} → ChangesAreWrites → (cs : List Change) (r s : Rows) (l m : Logged) (old : Stored) (bytes : List ℕ) → ◌≡◌ {A = Stored} (record { rows = r; log = l }) old → IsSoundStore r l ks → AreGood cs old.rows.tables → length cs < 2 ^ 64 → IndexesHold (change_all cs old.rows) →
+pub sound_changes : {ks js : KeptCollections} → ChangesAreWrites → (cs : List Change) (r s : Rows) (l m : Logged) (old : Stored) (bytes : List ℕ) → ◌≡◌ {A = Stored} (record { rows = r; log = l }) old → IsSoundStore r l ks → AreGood cs old.rows.tables → length cs < 2 ^ 64 → IndexesHold (change_all cs old.rows) →
     s ≡ change_all cs r → m ≡ logged bytes l → old.log.recorded < 4000000000 → AreKept js s → IsSoundStore s m js
 sound_changes law cs r s l m old bytes v h g few i e f low kept =
     (let here : l.recorded ≡ old.log.recorded = ap (λ (z : Stored). z.log.recorded) v in

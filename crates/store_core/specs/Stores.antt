@@ -9,8 +9,7 @@ use Rattle.store_log.specs.Logged.{Logged}
 use Rattle.history_model.specs.Indexes.{IndexesHold}
 use Rattle.history_model.specs.Stages.{Stage, turned}
 use Rattle.command_refusals.specs.Keyed.{AreKeyed}
-use Rattle.kept_indexes.specs.declared.collection.KeptCollection.{KeptCollection}
-use Rattle.kept_indexes.specs.Kept.{AreKept}
+use Rattle.kept_indexes.specs.Kept.{KeptCollections, AreKept}
 
 -- collections, and what is recorded
 pub record Stored : Type 0 where
@@ -39,7 +38,7 @@ abbrev pub AreShort : Rows → Type 0
 AreShort s = (n : NsName) (t : Table) → map.get s.tables n ≡ Some t → AllShort t.rows
 
 -- what holds of a store at each moment: each document stands under the key of its `_id` and is short; the indexes hold, and those that are kept are built over the documents; and the calls that the collections count are at most 2^64 for each entry that was recorded
-pub record IsSoundStore (rows : Rows) (log : Logged) (indexes : List KeptCollection) : Type 0 where
+pub record IsSoundStore (rows : Rows) (log : Logged) (indexes : KeptCollections) : Type 0 where
   pub keyed : AreKeyed rows
   pub short : AreShort rows
   pub holds : IndexesHold rows
