@@ -13,3 +13,4 @@ pub mod Height
 pub mod Sifting
 pub mod Formed
 pub mod Whole
+pub mod NameSet

@@ -145,7 +145,7 @@ has_more n (x ∷ seen) ms h = go (bytes_eq x n) h (λ k. has_more n seen ms k) 
   go true h more = refl
   go false h more = more h
 
-no_repeat : (end : ℕ) (seen : List (List ℕ)) (m : List ℕ) (ms : List (List ℕ)) (from : List ℕ) → repeat_at end seen (m ∷ ms) from ≡ None → (has m seen ≡ false) × (repeat_at end (seen ++ m ∷ []) ms (passed from) ≡ None)
+pub no_repeat : (end : ℕ) (seen : List (List ℕ)) (m : List ℕ) (ms : List (List ℕ)) (from : List ℕ) → repeat_at end seen (m ∷ ms) from ≡ None → (has m seen ≡ false) × (repeat_at end (seen ++ m ∷ []) ms (passed from) ≡ None)
 no_repeat end seen m ms from e = go (has m seen) e where
   go : (b : Bool) → cond b (Some (place end (drop 1 from))) (repeat_at end (seen ++ m ∷ []) ms (passed from)) ≡ None → (b ≡ false) × (repeat_at end (seen ++ m ∷ []) ms (passed from) ≡ None)
   go true e = absurd cc

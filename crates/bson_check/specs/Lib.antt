@@ -5,3 +5,4 @@ pub mod Faults
 pub mod Blocks
 pub mod Slots
 pub mod Sieve
+pub mod NameSet

@@ -7,12 +7,13 @@ ghost use Rattle.bson_check.specs.Faults.{first_fault};
 ghost use Rattle.bson_check.specs.Passing.{count_of, jump};
 
 use crate::fault::{BsonFault, BsonKind};
+use crate::name_set::NameSet;
 use crate::parts::{
     binary, boolean, fault, frame, head, int, is_type, name, number_of, pointer, regex, run, text,
     total,
 };
 use crate::passing::after;
-use crate::repeats::{first_fault, first_repeat};
+use crate::repeats::first_fault;
 
 #[tactic(auto, unfolding(crate::specs::Reading::value_with, crate::specs::Passing::jump))]
 #[cycle(check)]
@@ -158,16 +159,20 @@ fn fields(levels: usize, end: usize, body: &[u8]) -> Result<(), BsonFault>
     ensures { Reads (λ u. u) result (void (fields_at (value_at levels) (length body.now) end [] body.now)) }
 {
     let mut rest = body;
+    let mut names = NameSet::new();
     'fields: while let Some((tag, bytes)) = rest.split_first() {
         match head(end, *tag, bytes) {
             Err(f) => return Err(first_fault(end, body, rest.len(), f)),
-            Ok((_, behind)) => match value(levels, *tag, end, behind) {
+            Ok((name, behind)) => match value(levels, *tag, end, behind) {
                 Err(f) => return Err(first_fault(end, body, after(*tag, behind).len(), f)),
-                Ok(next) => rest = next,
+                Ok(next) => {
+                    names.insert(name.as_bytes());
+                    rest = next;
+                }
             },
         }
     }
-    match first_repeat(end, body, 0) {
+    match names.first_repeat(end, body) {
         Some(at) => Err(fault(BsonKind::Repeat, at)),
         None => Ok(()),
     }

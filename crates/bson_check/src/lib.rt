@@ -6,6 +6,7 @@ mod checking;
 mod fault;
 mod laws;
 mod length;
+pub mod name_set;
 pub mod parts;
 pub mod passing;
 pub mod repeats;

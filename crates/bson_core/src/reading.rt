@@ -10,12 +10,13 @@ ghost use Rattle.bson_value.specs.declared.value.Value.{Value as Datum};
 ghost use Rattle.bson_check.specs.Passing.{count_of, jump};
 ghost use Rattle.bson_check.specs.Reading.{Gives, Reads, read_of, number, int_at, bool_at, text_at, frame_at, Frame, name_at, named, is_type, field_at, item_at, fields_at, items_at, value_at, document_at, array_at, scoped_at, document_of, run_at, long_of, stamp_of, raw_at, binary_at, cut_at, regex_at, pointer_at, scope_at, total_at, Scoped};
 
+use bson_check::name_set::NameSet;
 use bson_check::parts::{
     binary, boolean, eight, frame, head, int, is_type, long, name, number_of, pointer, regex, run,
     sixteen, stamp, text, total, twelve,
 };
 use bson_check::passing::after;
-use bson_check::repeats::{first_fault, first_repeat};
+use bson_check::repeats::first_fault;
 use bson_check::{BsonFault, BsonKind, DecodeFault};
 use bson_value::{BoxedCText, BoxedText, Bytes, CText, Doc, Fields, List, Text, Value, type_byte};
 use std::alloc::Global;
@@ -206,6 +207,7 @@ fn fields(alloc: Global, levels: usize, end: usize, body: &[u8]) -> Result<Doc, 
 {
     let mut entries = Vec::new(alloc);
     let mut rest = body;
+    let mut names = NameSet::new();
     'fields: while let Some((tag, bytes)) = rest.split_first() {
         match head(end, *tag, bytes) {
             Err(f) => return Err(DecodeFault::Bad(first_fault(end, body, rest.len(), f))),
@@ -217,12 +219,13 @@ fn fields(alloc: Global, levels: usize, end: usize, body: &[u8]) -> Result<Doc, 
                 }
                 Ok((value, next)) => {
                     entries.push((CText::of_text(alloc, name)?, value))?;
+                    names.insert(name.as_bytes());
                     rest = next;
                 }
             },
         }
     }
-    match first_repeat(end, body, 0) {
+    match names.first_repeat(end, body) {
         Some(at) => Err(bad(BsonKind::Repeat, at)),
         None => Ok(Fields::of_distinct(entries)),
     }

@@ -1,0 +1,67 @@
+//! A set of the names that a walk has passed, with a few bits for each name.
+ghost use Rattle.std.specs.Prelude.{◌≡◌, ◌≤◌, [], ◌∷◌, ◌++◌, length, List, ℕ};
+ghost use Rattle.bson_check.specs.Passing.{Path, repeat_at};
+ghost use Rattle.bson_check.specs.NameSet.{Holds, outline};
+
+use crate::repeats::first_repeat;
+use crate::slots::{FACTOR, put};
+
+/// The names that a walk has passed, each by three bits of one of four words. Of a document of ten names the set
+/// nearly always tells that none stands twice, and then they needn't be walked once more.
+#[derive(Drop)]
+pub struct NameSet {
+    words: [u64; 4],
+    may_repeat: bool,
+}
+
+// Four bytes that tell most names apart.
+fn outline(name: &[u8]) -> [u8; 4]
+    ensures { result ≡ outline name.now }
+{
+    if name.is_empty() {
+        return [0; 4];
+    }
+    let last = name.len() - 1;
+    [
+        name[0],
+        name[name.len() / 2],
+        name[last],
+        (name.len() % 256) as u8,
+    ]
+}
+
+impl NameSet {
+    /// The set without a name.
+    #[tactic(auto, unfolding(crate::specs::NameSet::Holds))]
+    pub fn new() -> NameSet
+        ensures { Holds result [] }
+    {
+        NameSet {
+            words: [0; 4],
+            may_repeat: false,
+        }
+    }
+
+    /// Puts the next name of the walk into the set.
+    #[tactic(auto, unfolding(crate::specs::NameSet::Holds))]
+    pub fn insert(&mut self, name: &[u8])
+        ensures { (ns : List (List ℕ)) → Holds self.old ns → Holds self.new (ns ++ name.now ∷ []) }
+    {
+        if !self.may_repeat {
+            self.may_repeat = put(FACTOR, &outline(name), &mut self.words);
+        }
+    }
+
+    /// The first name of the whole body that stands before it too, by its place, where the set holds the names of the body. They are walked once more only where one may stand twice.
+    #[tactic(auto, unfolding(crate::specs::NameSet::Holds))]
+    pub fn first_repeat(&self, end: usize, body: &[u8]) -> Option<usize>
+        requires { length body.now ≤ end }
+        ensures { (ns : List (List ℕ)) → Holds self.now ns → (to : List ℕ) → Path ns body.now to → length to ≡ 0 → repeat_at end [] ns body.now ≡ result }
+    {
+        if self.may_repeat {
+            first_repeat(end, body, 0)
+        } else {
+            None
+        }
+    }
+}
