@@ -11,7 +11,7 @@ use Rattle.json_tree.specs.declared.tree.Tree.{Tree}
 use Rattle.state_model.specs.Keys.{Key, key_cmp, same_key}
 use Rattle.state_model.proofs.Keys.{key_is, key_refl, key_turn}
 use Rattle.state_model.proofs.Maps.{key_map_same}
-use Rattle.coll_state.specs.declared.collection.Numbered.{Numbered}
+use Rattle.coll_state.specs.declared.collection.NumberedKey.{NumberedKey}
 use Rattle.coll_state.specs.declared.collection.Record.{Record}
 use Rattle.coll_state.specs.Rows.{Row, Table, row_of, Rising, collection_of}
 use Rattle.coll_state.specs.Documents.{under, put_value, values_under, AllThere, AreNumbered}
@@ -25,17 +25,17 @@ use Rattle.coll_state.proofs.Parts.{at_key, numbers_ordered}
 use Rattle.coll_state.proofs.Links.{get_document}
 
 -- each number is that of its key's row
-abbrev Tell : List Numbered → List Record → Type 0
+abbrev Tell : List NumberedKey → List Record → Type 0
 Tell [] rs = ⊤
 Tell (e ∷ es) rs = (no_in (row_of (rows_in rs) e.key) ≡ Some e.no) × Tell es rs
 
-Tells : List Numbered → List Record → Type 0
+Tells : List NumberedKey → List Record → Type 0
 Tells ns rs = (k : Key) (n : ℕ) → number_of ns k ≡ Some n → no_in (row_of (rows_in rs) k) ≡ Some n
 
-none_behind : (o : Ordering) (k : Key) (es : List Numbered) → o ≡ Equal → Behind (at_key k) o es → found (at_key k) es ≡ None
+none_behind : (o : Ordering) (k : Key) (es : List NumberedKey) → o ≡ Equal → Behind (at_key k) o es → found (at_key k) es ≡ None
 none_behind o k es e b = let f = subst (λ (z : Ordering). Behind (at_key k) z es) e b in none_above (at_key k) es f
 
-tells : (ns : List Numbered) (rs : List Record) → Rise key_cmp key_of_number ns → Tells ns rs → Tell ns rs
+tells : (ns : List NumberedKey) (rs : List Record) → Rise key_cmp key_of_number ns → Tells ns rs → Tell ns rs
 unfolding Tells
 tells [] rs r h = tt
 tells (e ∷ es) rs r h = (h e.key e.no here, tells es rs r.1 (λ k n f. h k n (later k n f)))
@@ -44,7 +44,7 @@ tells (e ∷ es) rs r h = (h e.key e.no here, tells es rs r.1 (λ k n f. h k n (
     here = rw (key_refl e.key) refl
 
     gone : (k : Key) → same_key e.key k ≡ true → number_of es k ≡ None
-    gone k s = ap (option_map (λ (z : Numbered). z.no)) (none_behind (key_cmp e.key k) k es (is_equal (key_cmp e.key k) s) (numbers_ordered (e ∷ es) k r).0)
+    gone k s = ap (option_map (λ (z : NumberedKey). z.no)) (none_behind (key_cmp e.key k) k es (is_equal (key_cmp e.key k) s) (numbers_ordered (e ∷ es) k r).0)
 
     no_some : (o : Option ℕ) (n : ℕ) → o ≡ None → o ≡ Some n → ⊥
     no_some o n a b = cc
@@ -55,7 +55,7 @@ tells (e ∷ es) rs r h = (h e.key e.no here, tells es rs r.1 (λ k n f. h k n (
       | inr s ↦ rw s f
     ]
 
-covered : (ns : List Numbered) (rs : List Record) → Covers ns (rows_in rs) → Tells ns rs
+covered : (ns : List NumberedKey) (rs : List Record) → Covers ns (rows_in rs) → Tells ns rs
 unfolding Tells
 covered ns rs c k n e = sym (c k) ∙ e
 
@@ -65,11 +65,11 @@ abbrev put_entry : Key → Option Record → List (Key × Value) → List (Key �
 put_entry k None es = es
 put_entry k (Some r) es = (k, Object r.document) ∷ es
 
-abbrev entries_under : List Numbered → List Record → List (Key × Value)
+abbrev entries_under : List NumberedKey → List Record → List (Key × Value)
 entries_under [] rs = []
 entries_under (e ∷ es) rs = put_entry e.key (under rs e.no) (entries_under es rs)
 
-below_under : (k : Key) (es : List Numbered) (rs : List Record) → AllAfter key_cmp key_of_number k es → T (below_all key_cmp k (entries_under es rs))
+below_under : (k : Key) (es : List NumberedKey) (rs : List Record) → AllAfter key_cmp key_of_number k es → T (below_all key_cmp k (entries_under es rs))
 below_under k [] rs a = tt
 below_under k (e ∷ es) rs a = by (under rs e.no) (below_under k es rs a.1)
   where
@@ -82,7 +82,7 @@ both true true x y = tt
 both true false x y = y
 both false b x y = x
 
-sorted_under : (ns : List Numbered) (rs : List Record) → Rise key_cmp key_of_number ns → T (map.is_sorted key_cmp (entries_under ns rs))
+sorted_under : (ns : List NumberedKey) (rs : List Record) → Rise key_cmp key_of_number ns → T (map.is_sorted key_cmp (entries_under ns rs))
 sorted_under [] rs r = tt
 sorted_under (e ∷ es) rs r = by (under rs e.no) (sorted_under es rs r.1)
   where
@@ -90,7 +90,7 @@ sorted_under (e ∷ es) rs r = by (under rs e.no) (sorted_under es rs r.1)
     by None h = h
     by (Some x) h = both (below_all key_cmp e.key (entries_under es rs)) (map.is_sorted key_cmp (entries_under es rs)) (below_under e.key es rs r.0) h
 
-values_of : (ns : List Numbered) (rs : List Record) → each (λ (e : Key × Value). e.1) (entries_under ns rs) ≡ values_under ns rs
+values_of : (ns : List NumberedKey) (rs : List Record) → each (λ (e : Key × Value). e.1) (entries_under ns rs) ≡ values_under ns rs
 values_of [] rs = refl
 values_of (e ∷ es) rs = by (under rs e.no) (values_of es rs)
   where
@@ -103,11 +103,11 @@ values_of (e ∷ es) rs = by (under rs e.no) (values_of es rs)
 abbrev value_in : Option Row → Option Value
 value_in o = option_map (λ (r : Row). Object r.document) o
 
-abbrev value_there : Option Numbered → Option Row → Option Value
+abbrev value_there : Option NumberedKey → Option Row → Option Value
 value_there None o = None
 value_there (Some e) o = value_in o
 
-find_under : (ns : List Numbered) (rs : List Record) (k : Key) → Rising 0 (rows_in rs) → Tell ns rs → map.find key_cmp k (entries_under ns rs) ≡ value_there (found (at_key k) ns) (row_of (rows_in rs) k)
+find_under : (ns : List NumberedKey) (rs : List Record) (k : Key) → Rising 0 (rows_in rs) → Tell ns rs → map.find key_cmp k (entries_under ns rs) ≡ value_there (found (at_key k) ns) (row_of (rows_in rs) k)
 find_under [] rs k up t = refl
 find_under (e ∷ es) rs k up t = by (under rs e.no) (found_row 0 rs e.key e.no up t.0) (find_under es rs k up t.1)
   where
@@ -127,14 +127,14 @@ find_under (e ∷ es) rs k up t = by (under rs e.no) (found_row 0 rs e.key e.no 
     by None i h = absurd (no_row (row_of (rows_in rs) e.key) i t.0)
     by (Some r) i h = here r i h (same_key k e.key) refl ∙ ap (λ (b : Bool). value_there (cond b (Some e) (found (at_key k) es)) (row_of (rows_in rs) k)) (sym (turned (same_key k e.key) refl))
 
-all_found : (ns : List Numbered) (rs : List Record) (k : Key) → Covers ns (rows_in rs) → value_there (found (at_key k) ns) (row_of (rows_in rs) k) ≡ value_in (row_of (rows_in rs) k)
+all_found : (ns : List NumberedKey) (rs : List Record) (k : Key) → Covers ns (rows_in rs) → value_there (found (at_key k) ns) (row_of (rows_in rs) k) ≡ value_in (row_of (rows_in rs) k)
 all_found ns rs k c = by (found (at_key k) ns) refl
   where
-    by : (o : Option Numbered) → found (at_key k) ns ≡ o → value_there o (row_of (rows_in rs) k) ≡ value_in (row_of (rows_in rs) k)
-    by None e = sym (ap value_in (row_absent (rows_in rs) k (row_of (rows_in rs) k) refl (sym (c k) ∙ ap (option_map (λ (z : Numbered). z.no)) e)))
+    by : (o : Option NumberedKey) → found (at_key k) ns ≡ o → value_there o (row_of (rows_in rs) k) ≡ value_in (row_of (rows_in rs) k)
+    by None e = sym (ap value_in (row_absent (rows_in rs) k (row_of (rows_in rs) k) refl (sym (c k) ∙ ap (option_map (λ (z : NumberedKey). z.no)) e)))
     by (Some z) e = refl
 
-pub values_by_key : (options : Tree) (defs : List Tree) (incarnation next : ℕ) (ns : List Numbered) (rs : List Record) → AreParts defs next ns rs →
+pub values_by_key : (options : Tree) (defs : List Tree) (incarnation next : ℕ) (ns : List NumberedKey) (rs : List Record) → AreParts defs next ns rs →
     values_under ns rs ≡ map.values (collection_of (table_in options defs incarnation next rs)).documents
 values_by_key options defs incarnation next ns rs p =
     let t : Table = table_in options defs incarnation next rs in
@@ -146,7 +146,7 @@ values_by_key options defs incarnation next ns rs p =
 
 -- ---- each number has a record
 
-all_there : (ns : List Numbered) (rs : List Record) → Rising 0 (rows_in rs) → Tell ns rs → AllThere ns rs
+all_there : (ns : List NumberedKey) (rs : List Record) → Rising 0 (rows_in rs) → Tell ns rs → AllThere ns rs
 all_there [] rs up t = tt
 all_there (e ∷ es) rs up t = (by (under rs e.no) (found_row 0 rs e.key e.no up t.0), all_there es rs up t.1)
   where
@@ -157,5 +157,5 @@ all_there (e ∷ es) rs up t = (by (under rs e.no) (found_row 0 rs e.key e.no up
     by None i = absurd (no_row (row_of (rows_in rs) e.key) i t.0)
     by (Some r) i = refl
 
-pub are_numbered : (defs : List Tree) (next : ℕ) (ns : List Numbered) (rs : List Record) → AreParts defs next ns rs → AreNumbered ns rs
+pub are_numbered : (defs : List Tree) (next : ℕ) (ns : List NumberedKey) (rs : List Record) → AreParts defs next ns rs → AreNumbered ns rs
 are_numbered defs next ns rs p = record { rising = p.rising; there = all_there ns rs p.rising (tells ns rs p.keys (covered ns rs p.covers)) }

@@ -13,7 +13,7 @@ use Rattle.json_tree.specs.declared.tree.Tree.{Tree}
 use Rattle.state_model.specs.Keys.{Key, key_cmp, same_key}
 use Rattle.state_model.proofs.Keys.{key_total, key_anti, key_is, key_turn}
 use Rattle.state_model.proofs.Maps.{key_map_same, key_at_insert, key_at_remove, key_remove_same}
-use Rattle.coll_state.specs.declared.collection.Numbered.{Numbered}
+use Rattle.coll_state.specs.declared.collection.NumberedKey.{NumberedKey}
 use Rattle.coll_state.specs.declared.collection.Record.{Record}
 use Rattle.coll_state.specs.Rows.{Document, Row, Table, row_of, Rising, last_no, scan}
 use Rattle.coll_state.specs.Changes.{put_row, drop_row, next_after, put_table, drop_table}
@@ -25,38 +25,38 @@ use Rattle.coll_state.proofs.Keyed.{rise_ordered, found_put, found_set, found_ta
 use Rattle.coll_state.proofs.RowLists.{no_in, row_found, row_absent, kept_no, fresh_no, row_put_else, row_drop_else, row_drop_here, rising_put, rising_drop, last_put, last_drop}
 
 -- the order beside a key
-abbrev pub at_key : Key → Numbered → Ordering
+abbrev pub at_key : Key → NumberedKey → Ordering
 at_key k = beside key_cmp key_of_number k
 
 abbrev pub at_name : Key → Tree → Ordering
 at_name n = beside key_cmp definition_name n
 
-pub numbers_ordered : (ns : List Numbered) (k : Key) → Rise key_cmp key_of_number ns → IsOrdered (at_key k) ns
+pub numbers_ordered : (ns : List NumberedKey) (k : Key) → Rise key_cmp key_of_number ns → IsOrdered (at_key k) ns
 numbers_ordered ns k r = rise_ordered key_cmp key_total key_anti key_of_number ns k r
 
 pub names_ordered : (ds : List Tree) (n : Key) → Rise key_cmp definition_name ds → IsOrdered (at_name n) ds
 names_ordered ds n r = rise_ordered key_cmp key_total key_anti definition_name ds n r
 
 -- what the numbers tell of a key: the number of an element that was looked for
-pub number_is : (ns : List Numbered) (rs : List Record) (k : Key) (n : Option ℕ) (o : Option Numbered) → Covers ns (rows_in rs) → n ≡ option_map (λ (z : Numbered). z.no) o → o ≡ found (at_key k) ns → n ≡ no_in (row_of (rows_in rs) k)
-number_is ns rs k n o c e f = e ∙ (ap (option_map (λ (z : Numbered). z.no)) f ∙ c k)
+pub number_is : (ns : List NumberedKey) (rs : List Record) (k : Key) (n : Option ℕ) (o : Option NumberedKey) → Covers ns (rows_in rs) → n ≡ option_map (λ (z : NumberedKey). z.no) o → o ≡ found (at_key k) ns → n ≡ no_in (row_of (rows_in rs) k)
+number_is ns rs k n o c e f = e ∙ (ap (option_map (λ (z : NumberedKey). z.no)) f ∙ c k)
 
 pub absent_of : (rs : List Row) (k : Key) → None ≡ no_in (row_of rs k) → row_of rs k ≡ None
 absent_of rs k e = row_absent rs k (row_of rs k) refl (sym e)
 
-pub no_number : (ns : List Numbered) (k : Key) → number_of ns k ≡ None → found (at_key k) ns ≡ None
+pub no_number : (ns : List NumberedKey) (k : Key) → number_of ns k ≡ None → found (at_key k) ns ≡ None
 no_number ns k e = by (found (at_key k) ns) refl
   where
-    by : (o : Option Numbered) → found (at_key k) ns ≡ o → found (at_key k) ns ≡ None
+    by : (o : Option NumberedKey) → found (at_key k) ns ≡ o → found (at_key k) ns ≡ None
     by None p = p
-    by (Some z) p = let f : None ≡ Some z.no = sym e ∙ ap (option_map (λ (z : Numbered). z.no)) p in cc
+    by (Some z) p = let f : None ≡ Some z.no = sym e ∙ ap (option_map (λ (z : NumberedKey). z.no)) p in cc
 
 -- numbers among which a key has one already
-pub numbers_kept : (ns : List Numbered) (k : Key) (n : ℕ) (y : Numbered) → Some n ≡ number_of ns k → put_new (at_key k) y ns ≡ ns
+pub numbers_kept : (ns : List NumberedKey) (k : Key) (n : ℕ) (y : NumberedKey) → Some n ≡ number_of ns k → put_new (at_key k) y ns ≡ ns
 numbers_kept ns k n y e = by (found (at_key k) ns) refl
   where
-    by : (o : Option Numbered) → found (at_key k) ns ≡ o → put_new (at_key k) y ns ≡ ns
-    by None p = let f : Some n ≡ None = e ∙ ap (option_map (λ (z : Numbered). z.no)) p in cc
+    by : (o : Option NumberedKey) → found (at_key k) ns ≡ o → put_new (at_key k) y ns ≡ ns
+    by None p = let f : Some n ≡ None = e ∙ ap (option_map (λ (z : NumberedKey). z.no)) p in cc
     by (Some z) p = sym (new_there (at_key k) ns z y (sym p))
 
 -- a document in the place of another
@@ -68,7 +68,7 @@ pub next_fresh : (next : ℕ) (o : Option Row) → o ≡ None → next_after nex
 next_fresh next None e = omega arith
 next_fresh next (Some r) e = cc
 
-pub parts_replaced : (defs : List Tree) (next n : ℕ) (ns : List Numbered) (rs rs' : List Record) (k : Key) (d : Document) → AreParts defs next ns rs → no_in (row_of (rows_in rs) k) ≡ Some n →
+pub parts_replaced : (defs : List Tree) (next n : ℕ) (ns : List NumberedKey) (rs rs' : List Record) (k : Key) (d : Document) → AreParts defs next ns rs → no_in (row_of (rows_in rs) k) ≡ Some n →
     rows_in rs' ≡ put_row next k d (rows_in rs) → AreParts defs next ns rs'
 parts_replaced defs next n ns rs rs' k d p there put = record {
   definitions = p.definitions;
@@ -87,7 +87,7 @@ parts_replaced defs next n ns rs rs' k d p there put = record {
     at q (inr s) = p.covers q ∙ (ap no_in (sym (row_put_else (rows_in rs) next k q d s)) ∙ ap (λ (z : List Row). no_in (row_of z q)) (sym put))
 
 -- a document behind all others
-pub parts_added : (defs : List Tree) (next : ℕ) (ns ns' : List Numbered) (rs rs' : List Record) (k : Key) (d : Document) (y : Numbered) → AreParts defs next ns rs → row_of (rows_in rs) k ≡ None →
+pub parts_added : (defs : List Tree) (next : ℕ) (ns ns' : List NumberedKey) (rs rs' : List Record) (k : Key) (d : Document) (y : NumberedKey) → AreParts defs next ns rs → row_of (rows_in rs) k ≡ None →
     y.key ≡ k → y.no ≡ next → ns' ≡ put_in (at_key k) y ns → rows_in rs' ≡ put_row next k d (rows_in rs) → AreParts defs (next + 1) ns' rs'
 parts_added defs next ns ns' rs rs' k d y p none yk yn is put = record {
   definitions = p.definitions;
@@ -100,17 +100,17 @@ parts_added defs next ns ns' rs rs' k d y p none yk yn is put = record {
     gap : found (at_key k) ns ≡ None
     gap = no_number ns k (p.covers k ∙ ap no_in none)
 
-    after : (q : Key) → number_of ns' q ≡ option_map (λ (z : Numbered). z.no) (if same_key q k then Some y else found (at_key q) ns)
-    after q = ap (λ (z : List Numbered). number_of z q) is ∙ ap (option_map (λ (z : Numbered). z.no)) (found_put key_cmp key_total key_anti key_of_number ns k q y yk)
+    after : (q : Key) → number_of ns' q ≡ option_map (λ (z : NumberedKey). z.no) (if same_key q k then Some y else found (at_key q) ns)
+    after q = ap (λ (z : List NumberedKey). number_of z q) is ∙ ap (option_map (λ (z : NumberedKey). z.no)) (found_put key_cmp key_total key_anti key_of_number ns k q y yk)
 
     at : (q : Key) → (same_key q k ≡ true) ⊎ (same_key q k ≡ false) → number_of ns' q ≡ no_in (row_of (rows_in rs') q)
-    at q (inl s) = after q ∙ (ap (λ (b : Bool). option_map (λ (z : Numbered). z.no) (if b then Some y else found (at_key q) ns)) s
+    at q (inl s) = after q ∙ (ap (λ (b : Bool). option_map (λ (z : NumberedKey). z.no) (if b then Some y else found (at_key q) ns)) s
         ∙ (ap Some yn ∙ (sym (fresh_no (rows_in rs) next k d none) ∙ (ap (λ (z : Key). no_in (row_of (put_row next k d (rows_in rs)) z)) (sym (key_is q k s)) ∙ ap (λ (z : List Row). no_in (row_of z q)) (sym put)))))
-    at q (inr s) = after q ∙ (ap (λ (b : Bool). option_map (λ (z : Numbered). z.no) (if b then Some y else found (at_key q) ns)) s
+    at q (inr s) = after q ∙ (ap (λ (b : Bool). option_map (λ (z : NumberedKey). z.no) (if b then Some y else found (at_key q) ns)) s
         ∙ (p.covers q ∙ (ap no_in (sym (row_put_else (rows_in rs) next k q d s)) ∙ ap (λ (z : List Row). no_in (row_of z q)) (sym put))))
 
 -- a document taken out
-pub parts_removed : (defs : List Tree) (next : ℕ) (ns ns' : List Numbered) (rs rs' : List Record) (k : Key) → AreParts defs next ns rs → ns' ≡ take_out (at_key k) ns → rows_in rs' ≡ drop_row k (rows_in rs) → AreParts defs next ns' rs'
+pub parts_removed : (defs : List Tree) (next : ℕ) (ns ns' : List NumberedKey) (rs rs' : List Record) (k : Key) → AreParts defs next ns rs → ns' ≡ take_out (at_key k) ns → rows_in rs' ≡ drop_row k (rows_in rs) → AreParts defs next ns' rs'
 parts_removed defs next ns ns' rs rs' k p is drop = record {
   definitions = p.definitions;
   keys = subst (Rise key_cmp key_of_number) (sym is) (rise_take key_cmp key_total key_anti key_of_number ns k p.keys);
@@ -119,13 +119,13 @@ parts_removed defs next ns ns' rs rs' k p is drop = record {
   next_above = subst (λ (z : List Row). last_no 0 z < next) (sym drop) (let a = last_drop 0 (rows_in rs) k p.rising in let b = p.next_above in omega arith);
 }
   where
-    after : (q : Key) → number_of ns' q ≡ option_map (λ (z : Numbered). z.no) (if same_key q k then None else found (at_key q) ns)
-    after q = ap (λ (z : List Numbered). number_of z q) is ∙ ap (option_map (λ (z : Numbered). z.no)) (found_take key_cmp key_total key_anti key_of_number ns k q p.keys)
+    after : (q : Key) → number_of ns' q ≡ option_map (λ (z : NumberedKey). z.no) (if same_key q k then None else found (at_key q) ns)
+    after q = ap (λ (z : List NumberedKey). number_of z q) is ∙ ap (option_map (λ (z : NumberedKey). z.no)) (found_take key_cmp key_total key_anti key_of_number ns k q p.keys)
 
     at : (q : Key) → (same_key q k ≡ true) ⊎ (same_key q k ≡ false) → number_of ns' q ≡ no_in (row_of (rows_in rs') q)
-    at q (inl s) = after q ∙ (ap (λ (b : Bool). option_map (λ (z : Numbered). z.no) (if b then None else found (at_key q) ns)) s
+    at q (inl s) = after q ∙ (ap (λ (b : Bool). option_map (λ (z : NumberedKey). z.no) (if b then None else found (at_key q) ns)) s
         ∙ (ap no_in (sym (row_drop_here 0 (rows_in rs) k p.rising)) ∙ (ap (λ (z : Key). no_in (row_of (drop_row k (rows_in rs)) z)) (sym (key_is q k s)) ∙ ap (λ (z : List Row). no_in (row_of z q)) (sym drop))))
-    at q (inr s) = after q ∙ (ap (λ (b : Bool). option_map (λ (z : Numbered). z.no) (if b then None else found (at_key q) ns)) s
+    at q (inr s) = after q ∙ (ap (λ (b : Bool). option_map (λ (z : NumberedKey). z.no) (if b then None else found (at_key q) ns)) s
         ∙ (p.covers q ∙ (ap no_in (sym (row_drop_else (rows_in rs) k q s)) ∙ ap (λ (z : List Row). no_in (row_of z q)) (sym drop))))
 
 pub drop_absent : (rs : List Row) (k : Key) → row_of rs k ≡ None → drop_row k rs ≡ rs
@@ -307,7 +307,7 @@ pub table_indexes : (t : Table) (m n : map.FinMap key_cmp Tree) → m ≡ n →
     ◌≡◌ {A = Table} (record { options = t.options; indexes = m; incarnation = t.incarnation; next = t.next; rows = t.rows }) (record { options = t.options; indexes = n; incarnation = t.incarnation; next = t.next; rows = t.rows })
 table_indexes t m n f = λ i. record { options = t.options; indexes = f i; incarnation = t.incarnation; next = t.next; rows = t.rows }
 
-pub with_definitions : (defs defs' : List Tree) (next : ℕ) (ns : List Numbered) (rs : List Record) → AreParts defs next ns rs → Rise key_cmp definition_name defs' → AreParts defs' next ns rs
+pub with_definitions : (defs defs' : List Tree) (next : ℕ) (ns : List NumberedKey) (rs : List Record) → AreParts defs next ns rs → Rise key_cmp definition_name defs' → AreParts defs' next ns rs
 with_definitions defs defs' next ns rs p r = record { definitions = r; keys = p.keys; covers = p.covers; rising = p.rising; next_above = p.next_above }
 
 some_there : (o : Option Row) (n : ℕ) → no_in o ≡ Some n → is_some o ≡ true

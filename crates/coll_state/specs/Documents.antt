@@ -4,7 +4,7 @@ use Rattle.std.specs.Ordering.{nat_cmp}
 use Rattle.std.specs.Borrow.{Bor}
 use Rattle.std.specs.FinMap as map
 use Rattle.bson_value.specs.declared.value.Value.{Value, Object}
-use Rattle.coll_state.specs.declared.collection.Numbered.{Numbered}
+use Rattle.coll_state.specs.declared.collection.NumberedKey.{NumberedKey}
 use Rattle.coll_state.specs.declared.collection.Record.{Record}
 use Rattle.coll_state.specs.Rows.{Table, Rising, collection_of}
 use Rattle.sorted_list.specs.Order.{Shelf, found}
@@ -29,15 +29,15 @@ records_in None = []
 records_in (Some r) = r.now.items
 
 -- the documents under these numbers
-abbrev pub values_under : List Numbered → List Record → List Value
+abbrev pub values_under : List NumberedKey → List Record → List Value
 values_under [] rs = []
 values_under (e ∷ es) rs = put_value (under rs e.no) (values_under es rs)
 
-abbrev pub AllThere : List Numbered → List Record → Type 0
+abbrev pub AllThere : List NumberedKey → List Record → Type 0
 AllThere [] rs = ⊤
 AllThere (e ∷ es) rs = (is_some (under rs e.no) ≡ true) × AllThere es rs
 
 -- what holds of numbers that are still to come, and of all records
-pub record AreNumbered (es : List Numbered) (rs : List Record) : Type 0 where
+pub record AreNumbered (es : List NumberedKey) (rs : List Record) : Type 0 where
   pub rising : Rising 0 (rows_in rs)
   pub there : AllThere es rs

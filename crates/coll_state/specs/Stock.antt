@@ -6,7 +6,7 @@ use Rattle.std.specs.declared.cmp.Ordering.TheVariants.{Less}
 use Rattle.std.specs.FinMap as map
 use Rattle.json_tree.specs.declared.tree.Tree.{Tree}
 use Rattle.state_model.specs.Keys.{Key, key_cmp}
-use Rattle.coll_state.specs.declared.collection.Numbered.{Numbered}
+use Rattle.coll_state.specs.declared.collection.NumberedKey.{NumberedKey}
 use Rattle.coll_state.specs.declared.collection.Record.{Record}
 use Rattle.coll_state.specs.Rows.{Row, Table, row_of, key_in, id_of, Rising, last_no}
 use Rattle.coll_state.specs.Codes.{table_code}
@@ -34,11 +34,11 @@ Rise R key (x ∷ xs) = AllAfter R key (key x) xs × Rise R key xs
 abbrev pub beside : {K T : Type 0} → (K → K → Ordering) → (T → K) → K → T → Ordering
 beside R key k x = R (key x) k
 
-abbrev pub key_of_number : Numbered → Key
+abbrev pub key_of_number : NumberedKey → Key
 key_of_number e = e.key
 
-abbrev pub number_of : List Numbered → Key → Option ℕ
-number_of es k = option_map (λ (e : Numbered). e.no) (found (beside key_cmp key_of_number k) es)
+abbrev pub number_of : List NumberedKey → Key → Option ℕ
+number_of es k = option_map (λ (e : NumberedKey). e.no) (found (beside key_cmp key_of_number k) es)
 
 abbrev pub row_in : Record → Row
 row_in r = record { no = r.no; key = key_in (id_of r.document); document = r.document }
@@ -61,11 +61,11 @@ abbrev pub table_in : Tree → List Tree → ℕ → ℕ → List Record → Tab
 table_in options defs incarnation next records = record { options = options; indexes = indexes_in defs; incarnation = incarnation; next = next; rows = rows_in records }
 
 -- the number of each row stands under its key
-abbrev pub Covers : List Numbered → List Row → Type 0
+abbrev pub Covers : List NumberedKey → List Row → Type 0
 Covers es rs = (k : Key) → number_of es k ≡ option_map (λ (r : Row). r.no) (row_of rs k)
 
 -- what holds of the parts of a collection
-pub record AreParts (defs : List Tree) (next : ℕ) (numbers : List Numbered) (records : List Record) : Type 0 where
+pub record AreParts (defs : List Tree) (next : ℕ) (numbers : List NumberedKey) (records : List Record) : Type 0 where
   pub definitions : Rise key_cmp definition_name defs
   pub keys : Rise key_cmp key_of_number numbers
   pub covers : Covers numbers (rows_in records)

@@ -7,7 +7,7 @@ ghost use Rattle.coll_state.specs.ChangeAll.{change_one, change_all, HasId, Have
 ghost use Rattle.coll_state.specs.Prepared.{change_of, changes_of, HasRoom, RoomFor, AllKeep, AllLoseOne};
 ghost use Rattle.coll_state.specs.Tables.{tables_in, stock_at};
 
-use crate::kept::Kept;
+use crate::kept::KeptDocument;
 use crate::prepared::Prepared;
 use crate::state::key_of;
 use crate::tables::Tables;
@@ -22,11 +22,11 @@ pub struct Change {
     pub doc: Option<Doc>,
 }
 
-fn document_of(alloc: Global, doc: Option<Doc>) -> Result<Option<Kept>, AllocError>
+fn document_of(alloc: Global, doc: Option<Doc>) -> Result<Option<KeptDocument>, AllocError>
     ensures { IfOk result (λ document. document ≡ doc) }
 {
     match doc {
-        Some(doc) => Ok(Some(Kept::of(alloc, doc)?)),
+        Some(doc) => Ok(Some(KeptDocument::of(alloc, doc)?)),
         None => Ok(None),
     }
 }

@@ -12,7 +12,7 @@ ghost use Rattle.coll_state.specs.Stock.{row_in, rows_in, Rise, beside};
 ghost use Rattle.std.specs.List.Sorted.{IsSearchInRange};
 
 use crate::documents::Documents;
-use crate::kept::Kept;
+use crate::kept::KeptDocument;
 use bson_encode::{cmp_key, type_of};
 use bson_value::Value;
 use containers::{List as JList, SmallBytes};
@@ -24,7 +24,7 @@ use std::marker::Model;
 
 /// The record number of a key.
 #[derive(Drop)]
-pub(crate) struct Numbered {
+pub(crate) struct NumberedKey {
     key: SmallBytes,
     pub(crate) no: u128,
 }
@@ -33,7 +33,7 @@ pub(crate) struct Numbered {
 #[derive(Drop)]
 pub(crate) struct Record {
     pub(crate) no: u128,
-    pub(crate) document: Kept,
+    pub(crate) document: KeptDocument,
 }
 
 /// The rank of a record among all that were added.
@@ -48,7 +48,7 @@ pub(crate) struct Collection {
     indexes: JList<Tree>,
     incarnation: u128,
     next: u128,
-    numbers: SortedList<Numbered>,
+    numbers: SortedList<NumberedKey>,
     records: SortedList<Record>,
 }
 
@@ -100,7 +100,7 @@ fn order_beside(key: &SmallBytes, id: &Value) -> Ordering
     }
 }
 
-fn number_in(taken: Option<Numbered>) -> Option<u128>
+fn number_in(taken: Option<NumberedKey>) -> Option<u128>
     ensures { result ≡ option_map (λ n. n.no) taken }
 {
     match taken {
@@ -269,7 +269,7 @@ impl Collection {
     }
 
     // The document in the place of the one under this number.
-    fn replace(&mut self, no: u128, document: Kept)
+    fn replace(&mut self, no: u128, document: KeptDocument)
         requires { option_map (λ r. r.no) (row_of self.old.table.rows (key_in (id_of document))) ≡ Some no }
         ensures table { self.new.table ≡ put_table (key_in (id_of document)) document self.old.table }
         ensures room { self.old.room ≡ self.new.room }
@@ -282,7 +282,7 @@ impl Collection {
     }
 
     /// The document in the place of the one of its key, or behind all others.
-    pub(crate) fn put(&mut self, key: SmallBytes, document: Kept)
+    pub(crate) fn put(&mut self, key: SmallBytes, document: KeptDocument)
         requires key { key ≡ key_in (id_of document) }
         requires room { 1 ≤ self.old.room }
         requires number { self.old.table.next + 1 < 2 ^ 128 }
@@ -291,7 +291,7 @@ impl Collection {
     {
         let no = self.next;
         let there = self.numbers.put_new(
-            Numbered { key, no },
+            NumberedKey { key, no },
             |a, b| a.key.cmp(&b.key),
             |numbered| numbered.no,
         );
@@ -305,7 +305,11 @@ impl Collection {
     }
 
     /// The same, with room made for it.
-    pub(crate) fn put_one(&mut self, key: SmallBytes, document: Kept) -> Result<(), AllocError>
+    pub(crate) fn put_one(
+        &mut self,
+        key: SmallBytes,
+        document: KeptDocument,
+    ) -> Result<(), AllocError>
         requires key { key ≡ key_in (id_of document) }
         requires number { self.old.table.next + 1 < 2 ^ 128 }
         ensures ok { OnOk result (self.new.table ≡ put_table key document self.old.table) }

@@ -5,7 +5,7 @@ ghost use Rattle.coll_state.specs.Documents.{under, values_under, records_in, Ar
 ghost use Rattle.coll_state.specs.Rows.{Rising};
 ghost use Rattle.coll_state.specs.Stock.{rows_in};
 
-use crate::collection::{Numbered, Record, rank_of};
+use crate::collection::{NumberedKey, Record, rank_of};
 use bson_view::Held;
 use sorted_list::{SortedList, Walk};
 use std::marker::Model;
@@ -14,7 +14,7 @@ use std::marker::Model;
 /// then by the bytes. Each takes a search among the record numbers.
 #[derive(Drop)]
 pub struct Documents<'a> {
-    numbers: Walk<'a, Numbered>,
+    numbers: Walk<'a, NumberedKey>,
     records: Option<&'a SortedList<Record>>,
 }
 
@@ -46,7 +46,7 @@ fn record_under<'a>(records: Option<&'a SortedList<Record>>, no: u128) -> Option
 
 impl<'a> Documents<'a> {
     pub(crate) fn of(
-        numbers: Walk<'a, Numbered>,
+        numbers: Walk<'a, NumberedKey>,
         records: Option<&'a SortedList<Record>>,
     ) -> Documents<'a>
         requires { AreNumbered numbers (records_in records) }

@@ -27,11 +27,11 @@ pub(crate) enum Form {
 
 /// A document: its spelling where that is short, and else the document itself.
 #[derive(Drop)]
-pub(crate) struct Kept {
+pub(crate) struct KeptDocument {
     form: Form,
 }
 
-impl Model for Kept {
+impl Model for KeptDocument {
     ghost use Rattle.std.specs.Prelude.{List, ℕ};
     ghost use Rattle.bson_value.specs.declared.value.Value.{Value as Datum};
     ghost use Rattle.std.specs.Coded.{coded_list, coded×, coded_ℕ};
@@ -55,20 +55,20 @@ fn is_short(doc: &Doc) -> bool
     doc.fits(MAX_KEPT_BYTES, MAX_KEPT_LEVELS)
 }
 
-impl Kept {
+impl KeptDocument {
     /// The document, in its form.
-    pub(crate) fn of(alloc: Global, doc: Doc) -> Result<Kept, AllocError>
+    pub(crate) fn of(alloc: Global, doc: Doc) -> Result<KeptDocument, AllocError>
         ensures { IfOk result (λ k. k ≡ doc) }
     {
         if !is_short(&doc) {
-            return Ok(Kept {
+            return Ok(KeptDocument {
                 form: Form::Built(doc),
             });
         }
         let bytes = encode(alloc, &doc)?;
         faultless_if_spelled();
         one_document();
-        Ok(Kept {
+        Ok(KeptDocument {
             form: Form::Spelled(DocumentBytes::of_checked(bytes)),
         })
     }
@@ -84,7 +84,7 @@ impl Kept {
     }
 }
 
-impl Kept {
+impl KeptDocument {
     /// A copy of the document, in memory of its own.
     pub(crate) fn to_doc(&self, alloc: Global) -> Result<Doc, AllocError>
         ensures { IfOk result (λ doc. doc ≡ self.now) }
@@ -107,19 +107,19 @@ fn is_short_spelling(bytes: &DocumentBytes) -> bool
     is_spelling(&view, MAX_KEPT_LEVELS)
 }
 
-impl Kept {
+impl KeptDocument {
     /// The document that these bytes spell. They are kept as they lie where they are its spelling.
-    pub(crate) fn of_bytes(alloc: Global, bytes: DocumentBytes) -> Result<Kept, AllocError>
+    pub(crate) fn of_bytes(alloc: Global, bytes: DocumentBytes) -> Result<KeptDocument, AllocError>
         ensures { IfOk result (λ k. k ≡ kept_document bytes) }
     {
         let kept = is_short_spelling(&bytes);
         if kept {
-            return Ok(Kept {
+            return Ok(KeptDocument {
                 form: Form::Spelled(bytes),
             });
         }
         let doc = decoded(alloc, &bytes)?;
-        Kept::of(alloc, doc)
+        KeptDocument::of(alloc, doc)
     }
 }
 

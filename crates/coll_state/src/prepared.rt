@@ -3,7 +3,7 @@ ghost use Rattle.std.specs.Prelude.{◌≡◌};
 ghost use Rattle.bson_encode.specs.Key.{key_of};
 ghost use Rattle.coll_state.specs.ChangeAll.{HasKey};
 
-use crate::kept::Kept;
+use crate::kept::KeptDocument;
 use bson_value::{NsName, Value};
 use containers::SmallBytes;
 
@@ -13,7 +13,7 @@ pub(crate) struct Prepared {
     pub(crate) ns: NsName,
     pub(crate) id: Value,
     pub(crate) key: SmallBytes,
-    pub(crate) document: Option<Kept>,
+    pub(crate) document: Option<KeptDocument>,
     ghost keyed: { key ≡ key_of id },
     ghost own: { HasKey key document },
 }

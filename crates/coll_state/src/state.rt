@@ -16,7 +16,7 @@ ghost use Rattle.coll_state.specs.Kept.{shown, shown_in};
 use crate::change::{self, Change};
 use crate::collection::Collection;
 use crate::documents::Documents;
-use crate::kept::Kept;
+use crate::kept::KeptDocument;
 use crate::tables::{self, Tables};
 use crate::walks::{After, Namespaces};
 use bson_encode::put_key;
@@ -215,7 +215,7 @@ impl State {
         alloc: Global,
         ns: &NsName,
         key: SmallBytes,
-        document: Kept,
+        document: KeptDocument,
     ) -> Result<(), AllocError>
         requires key { key ≡ key_in (id_of document) }
         requires count { self.old.count < 2 ^ 127 }
@@ -236,7 +236,7 @@ impl State {
         ensures err { OnErr result (self.new ≡ self.old) }
     {
         let key = key_in(alloc, &doc)?;
-        let document = Kept::of(alloc, doc)?;
+        let document = KeptDocument::of(alloc, doc)?;
         self.put_kept(alloc, ns, key, document)
     }
 
@@ -245,7 +245,7 @@ impl State {
         alloc: Global,
         ns: &NsName,
         key: SmallBytes,
-        document: Kept,
+        document: KeptDocument,
     ) -> Result<(), AllocError>
         requires key { key ≡ key_in (id_of document) }
         requires missing { map.contains_key self.old.tables ns.now ≡ false }
@@ -268,7 +268,7 @@ impl State {
         ensures err { OnErr result (self.new ≡ self.old) }
     {
         let key = key_in(alloc, &doc)?;
-        let document = Kept::of(alloc, doc)?;
+        let document = KeptDocument::of(alloc, doc)?;
         self.put_first_kept(alloc, ns, key, document)
     }
 
@@ -287,7 +287,7 @@ impl State {
         ensures err { OnErr result (self.new ≡ self.old) }
     {
         let key = key_in_bytes(alloc, &bytes)?;
-        let document = Kept::of_bytes(alloc, bytes)?;
+        let document = KeptDocument::of_bytes(alloc, bytes)?;
         self.put_kept(alloc, ns, key, document)
     }
 

@@ -10,7 +10,7 @@ ghost use Rattle.coll_state.specs.Definitions.{definition_name};
 ghost use Rattle.coll_state.specs.Tables.{tables_in, stock_at};
 
 use crate::collection::Collection;
-use crate::kept::Kept;
+use crate::kept::KeptDocument;
 use bson_value::{NsName, Value};
 use containers::{List as JList, SmallBytes};
 use json_tree::{Fields, Tree};
@@ -25,7 +25,7 @@ fn made_with(
     alloc: Global,
     incarnation: u128,
     key: SmallBytes,
-    document: Kept,
+    document: KeptDocument,
 ) -> Result<Collection, AllocError>
     requires { key ≡ key_in (id_of document) }
     ensures { IfOk result (λ c. c.table ≡ put_table key document (or_fresh incarnation None)) }
@@ -60,7 +60,7 @@ pub(crate) fn put(
     ns: &NsName,
     incarnation: u128,
     key: SmallBytes,
-    document: Kept,
+    document: KeptDocument,
 ) -> Result<(), AllocError>
     requires key { key ≡ key_in (id_of document) }
     requires number { (t : Table) → map.get (tables_in tables.old) ns.now ≡ Some t → t.next + 1 < 2 ^ 128 }

@@ -2,7 +2,7 @@ use Rattle.std.proofs.Common.{rules, List, refl, sym, ap, ◌∙◌, subst}
 use Rattle.std.proofs.lemmas.Fn.{always_returns_same}
 use Rattle.state_model.specs.Keys.{Key, key_cmp}
 use Rattle.sorted_list.proofs.Order.{new_gone}
-use Rattle.coll_state.specs.declared.collection.Numbered.{Numbered}
+use Rattle.coll_state.specs.declared.collection.NumberedKey.{NumberedKey}
 use Rattle.coll_state.specs.Rows.{row_of}
 use Rattle.coll_state.specs.Changes.{put_table}
 use Rattle.coll_state.specs.Stock.{Stock, AreParts, rows_in, table_in}
@@ -17,7 +17,7 @@ invariant_of-self c =
     let order = numbers_ordered ns c.args.key c.self.invariant.keys in
     let there = c.in-Some.ensures.there (λ a b. key_cmp a.key b.key) (λ n. n.no) (always_returns_same _ _ _ (λ a r f called. (search rules, search rules))) (always_returns_same _ _ _ (λ a r f called. (search rules, search rules))) order in
     let items = c.put_new-there.ensures.items (λ a b. key_cmp a.key b.key) (always_returns_same _ _ _ (λ a r f called. (search rules, search rules))) order in
-    subst (λ (l : List Numbered). AreParts c.self.inside.indexes c.self.inside.next l c.self.inside.records.items)
+    subst (λ (l : List NumberedKey). AreParts c.self.inside.indexes c.self.inside.next l c.self.inside.records.items)
     (sym (items ∙ numbers_kept ns c.args.key c.in-Some.no (record { key = c.args.key; no = c.self.inside.next }) there)) c.self.invariant
 
 pub replace-requires : goal.replace-requires
@@ -31,7 +31,7 @@ invariant_of-self-in-None c =
     let k = c.args.key in
     let ns = c.self.inside.numbers.items in
     let rs = c.self.inside.records.items in
-    let y : Numbered = record { key = k; no = c.self.inside.next } in
+    let y : NumberedKey = record { key = k; no = c.self.inside.next } in
     let order = numbers_ordered ns k c.self.invariant.keys in
     let gone = c.in-None.ensures.there (λ a b. key_cmp a.key b.key) (λ n. n.no) (always_returns_same _ _ _ (λ a r f called. (search rules, search rules))) (always_returns_same _ _ _ (λ a r f called. (search rules, search rules))) order in
     let items = c.put_new-there.ensures.items (λ a b. key_cmp a.key b.key) (always_returns_same _ _ _ (λ a r f called. (search rules, search rules))) order in
