@@ -8,3 +8,4 @@ pub mod Zeros
 pub mod Touches
 pub mod ShortLevels
 pub mod Progress
+pub mod Placed

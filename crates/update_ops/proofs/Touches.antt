@@ -4,9 +4,11 @@ use Rattle.std.specs.Prelude.{◌||◌, ◌&&◌, ◌==◌, not, if◌then◌els
 use Rattle.std.specs.List.{list_any}
 use Rattle.std.specs.Str.{bytes_eq}
 use Rattle.std.proofs.lemmas.Bool.{cases_Bool}
+use Rattle.std.proofs.lemmas.List.{map-append}
 use Rattle.std.proofs.lemmas.List.Folds.{list_any-append}
 use Rattle.std.proofs.lemmas.Grind.{common_steps}
 use Rattle.doc_path.specs.Places.{keys}
+use Rattle.doc_path.specs.Touch.{key_of}
 use Rattle.update_model.specs.declared.mark.Mark.{Mark}
 use Rattle.update_model.specs.Conflicts.{Path, begins}
 use Rattle.update_model.specs.Touched.{parts_of, place_of, mark_covers, any_mark, tops, stands_in, firsts, touched}
@@ -140,3 +142,17 @@ found_already all ms m e = found_more all ms m ∙ by (any_mark all (keys m.way)
     by : (b : Bool) → not b ≡ false → (if b then found all ms else found all ms ++ (m ∷ [])) ≡ found all ms
     by true e = refl
     by false e = cc
+
+-- ---- one mark alone
+
+longer : (ps : Path) (k : Text) → begins (ps ++ (k ∷ [])) ps ≡ false
+longer [] k = refl
+longer (p ∷ ps) k = by (bytes_eq p p) (longer ps k) where
+  by : (b : Bool) → begins (ps ++ (k ∷ [])) ps ≡ false → b && begins (ps ++ (k ∷ [])) ps ≡ false
+  by true e = e
+  by false e = refl
+
+pub touched_alone : (m : Mark) → touched (m ∷ []) ≡ m ∷ []
+touched_alone m =
+    let above : begins (place_of m) (keys m.way) ≡ false = ap (λ (p : Path). begins p (keys m.way)) (map-append key_of m.way (m.last ∷ [])) ∙ longer (keys m.way) (key_of m.last) in
+    rw above refl

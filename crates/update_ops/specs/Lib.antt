@@ -7,3 +7,4 @@ pub mod Drafts
 pub mod Operations
 pub mod PlaceKeys
 pub mod Ends
+pub mod KeyedValues

@@ -4,6 +4,7 @@
 mod acts;
 mod arguments;
 mod draft;
+mod keyed_values;
 mod locating;
 mod names;
 mod numbers;

@@ -106,6 +106,16 @@ fn is_new(
     Ok(seen.insert(place)?)
 }
 
+// The touch of the only mark.
+#[tactic(auto, using(crate::proofs::Touches::touched_alone))]
+fn alone(alloc: Global, doc: &Doc, mark: &Mark) -> Result<List<Touch>, AllocError>
+    ensures { IfOk result (λ ts. ts ≡ all_touches (object_of doc.now) (mark.now ∷ [])) }
+{
+    let mut touches = List::with_capacity(alloc, 1)?;
+    touches.push(touch_of(alloc, doc, mark)?)?;
+    Ok(touches)
+}
+
 /// The touches that record an update: one of each of the highest places that were marked, as they were
 /// first made, with what stands there in the document after the update.
 ///
@@ -113,6 +123,9 @@ fn is_new(
 pub fn touches(alloc: Global, doc: &Doc, marks: &[Mark]) -> Result<List<Touch>, AllocError>
     ensures { IfOk result (λ ts. ts ≡ all_touches (object_of doc.now) marks.now) }
 {
+    if let [only] = marks {
+        return alone(alloc, doc, only);
+    }
     let tops = highest(alloc, marks)?;
     let mut seen: BTreeSet<Bytes> = BTreeSet::new(alloc);
     let mut touches = List::new(alloc);

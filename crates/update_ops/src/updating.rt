@@ -55,7 +55,8 @@ fn finish(alloc: Global, draft: Draft) -> Result<Updated, UpdateFault>
 /// their first making, with what stands there after the update.
 ///
 /// The document is copied once. An operator looks its path up in the document, from its front, and takes
-/// the time of that and of what it changes; `$addToSet` compares each of its values with each element.
+/// the time of that and of what it changes; `$addToSet` compares each of up to eight values with each element,
+/// and looks more of them up by their keys.
 pub fn update(alloc: Global, doc: &Doc, ops: &Ops) -> Result<Updated, UpdateFault>
     ensures ok { IfOk result (λ u. updated ops.now doc.now ≡ Ok u) }
     ensures fault { IfErr result (λ e. IsRefusal e (updated ops.now doc.now)) }

@@ -1,12 +1,12 @@
-use Rattle.std.proofs.Common.{◌≡◌, ◌+◌, ◌++◌, ◌∷◌, [], List, Bool, true, false, take, refl, sym, ap, ◌∙◌, append_assoc}
+use Rattle.std.proofs.Common.{◌≡◌, ◌+◌, ◌++◌, ◌∷◌, [], List, take, sym, ap, ◌∙◌, append_assoc}
 use Rattle.std.specs.List.{list_any}
 use Rattle.std.proofs.lemmas.Grind.{take_at_read}
 use Rattle.bson_value.specs.declared.value.Value.{Value}
 use Rattle.update_model.specs.Equality.{same}
 use Rattle.update_model.specs.Acts.{new_ones}
 use Rattle.update_ops.proofs.News.{there_already, one_new}
-use Rattle.update_ops.proofs.values.united.Goals as goal
-use Rattle.update_ops.proofs.values.united.Goals.{then-not-is_among+in_ok-copy+in_ok-push, else-not-is_among}
+use Rattle.update_ops.proofs.values.united_one_by_one.Goals as goal
+use Rattle.update_ops.proofs.values.united_one_by_one.Goals.{then-not-is_among+in_ok-copy+in_ok-push, else-not-is_among}
 
 pub loop-value-preserved : goal.loop-value-preserved
 loop-value-preserved c =
