@@ -24,7 +24,7 @@ pub(crate) enum Verdict {
 
 /// Whether two documents have a key of a unique index, and whether in one of them two fields meet an array.
 #[derive(Clone, Copy)]
-pub struct Tested {
+pub struct IndexTest {
     pub clash: bool,
     pub parallel: bool,
 }
@@ -103,20 +103,25 @@ fn shared_of_others(
 /// Tests the index of a definition over documents. The time is that of the keys of each document, and of a
 /// search in a tree for each key of a unique index; where in one document two fields meet an array, twice
 /// that.
-pub fn test(alloc: Global, ns: &NsName, def: &Tree, docs: &[Held<'_>]) -> Result<Tested, AllocError>
+pub fn test(
+    alloc: Global,
+    ns: &NsName,
+    def: &Tree,
+    docs: &[Held<'_>],
+) -> Result<IndexTest, AllocError>
     ensures clash { IfOk result (λ t. t.clash ≡ unique_clash (plan_of def.now) (held docs.now)) }
     ensures parallel { IfOk result (λ t. t.parallel ≡ any_parallel (plan_of def.now) (held docs.now)) }
 {
     match judge(alloc, ns, def, docs)? {
-        Verdict::Apart => Ok(Tested {
+        Verdict::Apart => Ok(IndexTest {
             clash: false,
             parallel: false,
         }),
-        Verdict::Shared => Ok(Tested {
+        Verdict::Shared => Ok(IndexTest {
             clash: true,
             parallel: false,
         }),
-        Verdict::Parallel => Ok(Tested {
+        Verdict::Parallel => Ok(IndexTest {
             clash: shared_of_others(alloc, ns, def, docs)?,
             parallel: true,
         }),

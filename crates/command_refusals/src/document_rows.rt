@@ -119,16 +119,6 @@ pub fn replace_refusal(
     })
 }
 
-// An update that gives no document is refused.
-fn is_refused(updated: Option<&Updated>) -> bool
-    ensures { result ≡ not (is_some (option_copied updated.entry)) }
-{
-    match updated {
-        Some(_) => false,
-        None => true,
-    }
-}
-
 /// Why the indexes of a collection refuse the document that an update makes, where it makes one. Where the collection has
 /// indexes, the time is that of testing them over all its documents.
 pub fn updated_refusal(
@@ -161,15 +151,18 @@ pub fn update_refusal(
     requires tested { tested ≡ rows_refusal (with_update id.now (option_copied updated) (rows_in (map.get state.now.tables ns.now))) (definitions_in (map.get state.now.tables ns.now)) }
     ensures { result ≡ refusal_of false (DocumentCommand.Update ns.now id.now ops.now) state.now }
 {
-    first_row(Conditions {
-        no_namespace: !state.has(ns),
-        duplicate_id: false,
-        no_document: !is_at(state, ns, id),
-        tested,
-        bad_document: false,
-        bad_update: is_refused(updated),
-        bad_name: is_bad_new(state, ns),
-    })
+    match updated {
+        Some(_) => tested,
+        None => first_row(Conditions {
+            no_namespace: !state.has(ns),
+            duplicate_id: false,
+            no_document: !is_at(state, ns, id),
+            tested,
+            bad_document: false,
+            bad_update: true,
+            bad_name: is_bad_new(state, ns),
+        }),
+    }
 }
 
 /// Why a deletion is refused.

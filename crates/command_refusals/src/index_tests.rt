@@ -9,7 +9,7 @@ ghost use Rattle.command_refusals.specs.Keyed.{AreKeyed};
 ghost use Rattle.command_refusals.specs.Tests.{some_clash, some_parallel, refusal_by, rows_refusal};
 
 use crate::after::documents_after;
-use crate::clashes::{Tested, test};
+use crate::clashes::{IndexTest, test};
 use bson_value::{Doc, NsName, Value};
 use bson_view::Held;
 use coll_state::State;
@@ -23,7 +23,7 @@ fn test_all(
     ns: &NsName,
     defs: &[Tree],
     docs: &[Held<'_>],
-) -> Result<Tested, AllocError>
+) -> Result<IndexTest, AllocError>
     ensures clash { IfOk result (λ t. t.clash ≡ some_clash defs.now (held docs.now)) }
     ensures parallel { IfOk result (λ t. t.parallel ≡ some_parallel defs.now (held docs.now)) }
 {
@@ -34,7 +34,7 @@ fn test_all(
         clash = clash || tested.clash;
         parallel = parallel || tested.parallel;
     }
-    Ok(Tested { clash, parallel })
+    Ok(IndexTest { clash, parallel })
 }
 
 pub fn refusal_by(clash: bool, parallel: bool) -> Option<Refused>

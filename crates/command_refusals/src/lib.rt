@@ -10,7 +10,7 @@ mod index_tests;
 mod updates;
 
 pub use after::all_documents;
-pub use clashes::{Tested, test};
+pub use clashes::{IndexTest, test};
 pub use collection_rows::{
     create_refusal, drop_index_refusal, has_database, index_refusal, rename_refusal,
 };

@@ -18,7 +18,7 @@ use Rattle.doc_path.proofs.Steps.{shape-object, shape-array, other_takes}
 use Rattle.doc_path.proofs.Places.{child-object, child-array}
 use Rattle.update_model.specs.Conflicts.{Path}
 use Rattle.update_model.specs.Located.{Located, There, Missing, Blocked, part_in, part_at, size_in, size, within, further, located_under, located_at, located}
-use Rattle.update_ops.specs.Found.{behind}
+use Rattle.update_ops.specs.Sites.{behind}
 
 size-object : (fs : List (List ℕ × Value)) → size (Object fs) ≡ 0
 unfolding size

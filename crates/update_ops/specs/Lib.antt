@@ -2,7 +2,7 @@ pub mod Prefixes
 pub mod Keys
 pub mod Behind
 pub mod Appended
-pub mod Found
+pub mod Sites
 pub mod Drafts
 pub mod Operations
 pub mod PlaceKeys

@@ -11,7 +11,7 @@ ghost use Rattle.update_ops.specs.Operations.{applied, news};
 
 use crate::arguments::number_of;
 use crate::draft::{Draft, built};
-use crate::locating::{Found, locate};
+use crate::locating::{Site, locate};
 use crate::numbers::{Operation, combined, value_of, zero_of};
 use crate::values::{copies, equals, extended, has, united, without};
 use bson_value::{CText, List, Value};
@@ -119,13 +119,13 @@ impl Draft {
         let value = value.copy(alloc)?;
         let mut way = List::new(alloc);
         match locate(alloc, &self.doc, path, &mut way)? {
-            Found::There(last, old) => {
+            Site::There(last, old) => {
                 let is_same = equals(old, &value);
                 self.change(way, last, is_same, value)?;
                 Ok(())
             }
-            Found::Missing(last, size, rest) => self.make(alloc, way, last, size, rest, value),
-            Found::Blocked => Err(UpdateFault::NotViable),
+            Site::Missing(last, size, rest) => self.make(alloc, way, last, size, rest, value),
+            Site::Blocked => Err(UpdateFault::NotViable),
         }
     }
 
@@ -134,7 +134,7 @@ impl Draft {
     {
         let mut way = List::new(alloc);
         match locate(alloc, &self.doc, path, &mut way)? {
-            Found::There(last, old) => match &last {
+            Site::There(last, old) => match &last {
                 Part::Name(_) => self.take_out(way, last),
                 Part::Index(_) => {
                     if is_null(old) {
@@ -162,7 +162,7 @@ impl Draft {
     {
         let mut way = List::new(alloc);
         match locate(alloc, &self.doc, path, &mut way)? {
-            Found::There(last, old) => {
+            Site::There(last, old) => {
                 let Some(number) = number_of(old) else {
                     return Err(UpdateFault::WrongType);
                 };
@@ -174,10 +174,10 @@ impl Draft {
                 self.change(way, last, is_same, value)?;
                 Ok(())
             }
-            Found::Missing(last, size, rest) => {
+            Site::Missing(last, size, rest) => {
                 self.make(alloc, way, last, size, rest, value_of(first))
             }
-            Found::Blocked => Err(UpdateFault::NotViable),
+            Site::Blocked => Err(UpdateFault::NotViable),
         }
     }
 
@@ -187,9 +187,9 @@ impl Draft {
     {
         let mut way = List::new(alloc);
         match locate(alloc, &self.doc, path, &mut way)? {
-            Found::There(last, _) => Ok(!goes_through_array(way.as_slice(), &last)),
-            Found::Missing(last, _, _) => Ok(!goes_through_array(way.as_slice(), &last)),
-            Found::Blocked => Ok(false),
+            Site::There(last, _) => Ok(!goes_through_array(way.as_slice(), &last)),
+            Site::Missing(last, _, _) => Ok(!goes_through_array(way.as_slice(), &last)),
+            Site::Blocked => Ok(false),
         }
     }
 
@@ -199,12 +199,12 @@ impl Draft {
     {
         let mut way = List::new(alloc);
         match locate(alloc, &self.doc, path, &mut way)? {
-            Found::There(last, _) => self.replace(way, last, value),
-            Found::Missing(last, size, rest) => {
+            Site::There(last, _) => self.replace(way, last, value),
+            Site::Missing(last, size, rest) => {
                 let value = built(alloc, rest, value)?;
                 self.add(alloc, way, last, size, value)
             }
-            Found::Blocked => Ok(()),
+            Site::Blocked => Ok(()),
         }
     }
 
@@ -229,7 +229,7 @@ impl Draft {
     {
         let mut way = List::new(alloc);
         match locate(alloc, &self.doc, from, &mut way)? {
-            Found::There(last, value) => {
+            Site::There(last, value) => {
                 if goes_through_array(way.as_slice(), &last) || !self.can_take(alloc, to)? {
                     return Err(UpdateFault::NotViable);
                 }
@@ -237,8 +237,8 @@ impl Draft {
                 self.carry(alloc, way, last, to, value)?;
                 Ok(())
             }
-            Found::Missing(_, _, _) => Ok(()),
-            Found::Blocked => Err(UpdateFault::NotViable),
+            Site::Missing(_, _, _) => Ok(()),
+            Site::Blocked => Err(UpdateFault::NotViable),
         }
     }
 
@@ -276,7 +276,7 @@ impl Draft {
     {
         let mut way = List::new(alloc);
         match locate(alloc, &self.doc, path, &mut way)? {
-            Found::There(last, old) => match old {
+            Site::There(last, old) => match old {
                 Value::Array(items) => {
                     let count = items.len();
                     let all = with_news(alloc, items.as_slice(), values.as_slice(), is_set)?;
@@ -285,11 +285,11 @@ impl Draft {
                 }
                 _ => Err(UpdateFault::WrongType),
             },
-            Found::Missing(last, size, rest) => {
+            Site::Missing(last, size, rest) => {
                 let all = with_news(alloc, &[], values.as_slice(), is_set)?;
                 self.make(alloc, way, last, size, rest, Value::Array(all))
             }
-            Found::Blocked => Err(UpdateFault::NotViable),
+            Site::Blocked => Err(UpdateFault::NotViable),
         }
     }
 
@@ -299,7 +299,7 @@ impl Draft {
     {
         let mut way = List::new(alloc);
         match locate(alloc, &self.doc, path, &mut way)? {
-            Found::There(last, old) => match old {
+            Site::There(last, old) => match old {
                 Value::Array(items) => match items.as_slice().split_first() {
                     None => Ok(()),
                     Some((_, others)) => match end {
@@ -317,8 +317,8 @@ impl Draft {
                 },
                 _ => Err(UpdateFault::WrongType),
             },
-            Found::Missing(_, _, _) => Ok(()),
-            Found::Blocked => Err(UpdateFault::NotViable),
+            Site::Missing(_, _, _) => Ok(()),
+            Site::Blocked => Err(UpdateFault::NotViable),
         }
     }
 
@@ -340,7 +340,7 @@ impl Draft {
     {
         let mut way = List::new(alloc);
         match locate(alloc, &self.doc, path, &mut way)? {
-            Found::There(last, old) => match old {
+            Site::There(last, old) => match old {
                 Value::Array(items) => {
                     if has(items.as_slice(), value) {
                         let others = without(alloc, items.as_slice(), value)?;
@@ -350,8 +350,8 @@ impl Draft {
                 }
                 _ => Err(UpdateFault::WrongType),
             },
-            Found::Missing(_, _, _) => Ok(()),
-            Found::Blocked => Err(UpdateFault::NotViable),
+            Site::Missing(_, _, _) => Ok(()),
+            Site::Blocked => Err(UpdateFault::NotViable),
         }
     }
 

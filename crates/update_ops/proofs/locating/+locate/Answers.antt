@@ -6,7 +6,7 @@ use Rattle.containers.specs.Entries.{lookup}
 use Rattle.doc_path.specs.Touch.{small, limit}
 use Rattle.doc_path.proofs.Steps.{nth-slice_get}
 use Rattle.update_model.specs.Located.{Located, Missing, located}
-use Rattle.update_ops.specs.Found.{located_as, behind, gone_on}
+use Rattle.update_ops.specs.Sites.{located_as, behind, gone_on}
 use Rattle.doc_path.specs.declared.parts.Part.{Part}
 use Rattle.doc_path.specs.declared.parts.Part.TheVariants.{Name as name, Index as index}
 use Rattle.update_ops.proofs.Leads.{field_located, no_field, element_located, no_element, no_index_located, other_located}

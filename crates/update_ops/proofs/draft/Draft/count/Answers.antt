@@ -4,7 +4,7 @@ use Rattle.update_model.specs.declared.operator.Number.{Number}
 use Rattle.update_model.specs.Located.{Located}
 use Rattle.update_model.specs.Acts.{count, counted, counted_as, changed_at, made_at}
 use Rattle.update_ops.specs.Operations.{applied}
-use Rattle.update_ops.specs.Found.{located_as}
+use Rattle.update_ops.specs.Sites.{located_as}
 use Rattle.update_ops.specs.Drafts.{Does}
 use Rattle.update_ops.proofs.draft.Draft.count.Goals as goal
 

@@ -3,7 +3,7 @@ use Rattle.bson_value.specs.declared.value.Value.{Value, Object}
 use Rattle.update_model.specs.Located.{Located}
 use Rattle.update_model.specs.Steps.{added}
 use Rattle.update_model.specs.Acts.{moved_to}
-use Rattle.update_ops.specs.Found.{located_as}
+use Rattle.update_ops.specs.Sites.{located_as}
 use Rattle.update_ops.specs.Drafts.{IsAfter}
 use Rattle.update_ops.proofs.draft.Draft.move_to.Goals as goal
 

@@ -6,7 +6,7 @@ use Rattle.update_model.specs.declared.operator.ArrayEnd.TheVariants as ends
 use Rattle.update_model.specs.Located.{Located}
 use Rattle.update_model.specs.Steps.{replaced}
 use Rattle.update_model.specs.Acts.{pop, popped, popped_in}
-use Rattle.update_ops.specs.Found.{located_as}
+use Rattle.update_ops.specs.Sites.{located_as}
 use Rattle.update_ops.specs.Drafts.{Does, IsAfter}
 use Rattle.update_ops.proofs.draft.Draft.pop.Goals as goal
 

@@ -7,7 +7,7 @@ use Rattle.update_model.specs.Equality.{same}
 use Rattle.update_model.specs.Located.{Located}
 use Rattle.update_model.specs.Steps.{replaced}
 use Rattle.update_model.specs.Acts.{Steps, others, pull, pulled_in}
-use Rattle.update_ops.specs.Found.{located_as}
+use Rattle.update_ops.specs.Sites.{located_as}
 use Rattle.update_ops.specs.Drafts.{Does, IsAfter}
 use Rattle.update_ops.proofs.draft.Draft.pull.Goals as goal
 

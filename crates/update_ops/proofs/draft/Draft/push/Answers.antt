@@ -3,7 +3,7 @@ use Rattle.bson_value.specs.declared.value.Value.{Value, Object, Array}
 use Rattle.update_model.specs.Located.{Located}
 use Rattle.update_model.specs.Acts.{made_at, push}
 use Rattle.update_ops.specs.Operations.{news}
-use Rattle.update_ops.specs.Found.{located_as}
+use Rattle.update_ops.specs.Sites.{located_as}
 use Rattle.update_ops.specs.Drafts.{Does}
 use Rattle.update_ops.proofs.draft.Draft.push.Goals as goal
 

@@ -2,8 +2,8 @@ use Rattle.std.proofs.Common.{◌≡◌, sym, ap, ◌∙◌, subst, OnOk}
 use Rattle.bson_value.specs.declared.value.Value.{Value, Object}
 use Rattle.update_model.specs.Located.{Located}
 use Rattle.update_model.specs.Acts.{set, changed_at}
-use Rattle.update_ops.specs.Found.{located_as}
-use Rattle.update_ops.specs.declared.locating.Found.TheVariants.{Missing as missing}
+use Rattle.update_ops.specs.Sites.{located_as}
+use Rattle.update_ops.specs.declared.locating.Site.TheVariants.{Missing as missing}
 use Rattle.update_ops.specs.Drafts.{Does}
 use Rattle.update_ops.proofs.draft.Draft.set.Goals as goal
 

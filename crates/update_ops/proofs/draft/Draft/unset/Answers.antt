@@ -6,7 +6,7 @@ use Rattle.doc_path.specs.declared.parts.Part.TheVariants.{Index as index}
 use Rattle.update_model.specs.Located.{Located, There}
 use Rattle.update_model.specs.Steps.{removed, replaced}
 use Rattle.update_model.specs.Acts.{Act, Steps, unset}
-use Rattle.update_ops.specs.Found.{located_as}
+use Rattle.update_ops.specs.Sites.{located_as}
 use Rattle.update_ops.specs.Drafts.{Does, IsAfter}
 use Rattle.update_ops.proofs.draft.Draft.unset.Goals as goal
 

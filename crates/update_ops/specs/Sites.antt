@@ -4,13 +4,13 @@ use Rattle.doc_path.specs.declared.parts.Part.{Part}
 use Rattle.update_model.specs.Located.{Located, There, Missing, Blocked, further, located}
 use Rattle.update_model.specs.Conflicts.{Path}
 use Rattle.bson_value.specs.declared.value.Value.{Value}
-use Rattle.update_ops.specs.declared.locating.Found.{Found}
-use Rattle.update_ops.specs.declared.locating.Found.TheVariants as found
+use Rattle.update_ops.specs.declared.locating.Site.{Site}
+use Rattle.update_ops.specs.declared.locating.Site.TheVariants as sites
 
-abbrev pub located_as : List Part → Found → Located
-located_as ws (found.There p v) = There ws p v.now
-located_as ws (found.Missing p n rest) = Missing ws p n rest.now
-located_as ws found.Blocked = Blocked
+abbrev pub located_as : List Part → Site → Located
+located_as ws (sites.There p v) = There ws p v.now
+located_as ws (sites.Missing p n rest) = Missing ws p n rest.now
+located_as ws sites.Blocked = Blocked
 
 -- the same behind other parts
 abbrev pub behind : List Part → Located → Located
