@@ -14,6 +14,7 @@ use Rattle.history_model.specs.Runs.{seen, looked}
 use Rattle.history_model.proofs.CopiedOut.{one_if, behind, behind_length}
 use Rattle.archive_length.proofs.Totals.{Weight}
 use Rattle.archive_length.proofs.Works.{IsWeight}
+use Rattle.coll_state.proofs.Sound.{some_table as same_table}
 
 -- ---- rows behind a number
 
@@ -207,9 +208,6 @@ pub record Looked (k : ℕ) (c : Cursor) (o : Option Table) : Type 0 where
 moved_less : (b : Bool) (p q : ℕ) (rs : List Row) → p ≤ q → left_behind b q rs ≤ left_behind b p rs
 moved_less true p q rs h = less_behind p q rs h
 moved_less false p q rs h = omega arith
-
-same_table : (a b : Table) → Some a ≡ Some b → a ≡ b
-same_table a b e = cc
 
 pub looks : (k : ℕ) (c : Cursor) (o : Option Table) → GoodTable o → Looked k c o
 looks k c None h = record { same = refl; no_more = λ t. omega arith; less = λ t e. absurd cc; none = λ e. refl }

@@ -1,6 +1,6 @@
 -- Documents under the numbers of their keys are those of the collection, in the order of their keys.
 use Rattle.std.proofs.Common.{◌≡◌, ℕ, List, [], ◌∷◌, map as each, Bool, true, false, cond, refl, sym, ap, ◌∙◌, subst, Option, Some, None, inl, inr}
-use Rattle.std.specs.Prelude.{⊤, ◌&&◌, option_map, is_some, T}
+use Rattle.std.specs.Prelude.{⊤, option_map, is_some, T}
 use Rattle.std.specs.FinMap as map
 use Rattle.std.specs.FinMap.Entries.{below_all}
 use Rattle.std.specs.declared.cmp.Ordering.{Ordering}
@@ -21,7 +21,7 @@ use Rattle.sorted_list.proofs.Order.{none_above}
 use Rattle.coll_state.proofs.Keyed.{is_equal}
 use Rattle.coll_state.proofs.RowLists.{no_in, row_absent}
 use Rattle.coll_state.proofs.Records.{found_row}
-use Rattle.coll_state.proofs.Parts.{at_key, numbers_ordered}
+use Rattle.coll_state.proofs.Parts.{at_key, numbers_ordered, and_T as both}
 use Rattle.coll_state.proofs.Links.{get_document}
 
 -- each number is that of its key's row
@@ -76,11 +76,6 @@ below_under k (e ∷ es) rs a = by (under rs e.no) (below_under k es rs a.1)
     by : (o : Option Record) → T (below_all key_cmp k (entries_under es rs)) → T (below_all key_cmp k (put_entry e.key o (entries_under es rs)))
     by None h = h
     by (Some r) h = rw a.0 h
-
-both : (a b : Bool) → T a → T b → T (a && b)
-both true true x y = tt
-both true false x y = y
-both false b x y = x
 
 sorted_under : (ns : List NumberedKey) (rs : List Record) → Rise key_cmp key_of_number ns → T (map.is_sorted key_cmp (entries_under ns rs))
 sorted_under [] rs r = tt

@@ -1,6 +1,6 @@
 -- Collections by their names, after a call of the map that holds them.
 use Rattle.std.proofs.Common.{◌≡◌, suc, List, [], ◌∷◌, Bool, true, false, cond, refl, sym, ap, ◌∙◌, subst, Option, Some, None, inl, inr}
-use Rattle.std.specs.Prelude.{◌⊎◌, option_map, Result, Ok, Err, OnOk, OnErr, IsSome, is_some, T, ◌&&◌, length, map as each}
+use Rattle.std.specs.Prelude.{◌⊎◌, option_map, Result, Ok, Err, OnOk, OnErr, IsSome, is_some, T, length, map as each}
 use Rattle.std.specs.Ordering.{eq_by_cmp}
 use Rattle.std.specs.BTreeMap.{is_at, UpdatesBy, IsOrdered}
 use Rattle.std.specs.Borrow.{Bor}
@@ -21,6 +21,7 @@ use Rattle.coll_state.specs.Rows.{Row, Table, row_of}
 use Rattle.coll_state.specs.Changes.{Tables, on_found, on_there, document_of, document_in, document_at}
 use Rattle.coll_state.specs.Stock.{Stock}
 use Rattle.coll_state.specs.Tables.{Stocks, named_tables, tables_in, stock_at}
+use Rattle.coll_state.proofs.Parts.{and_T}
 
 abbrev pub table_of : Option Stock → Option Table
 table_of o = option_map (λ (s : Stock). s.table) o
@@ -120,11 +121,6 @@ filtered m n p e = ns_map_same _ _ (λ q.
     ∙ sym (map.get-retain_keys (tables_in m) p q alike))))))
 
 -- in the order of names
-and_T : (a b : Bool) → T a → T b → T (a && b)
-and_T true true x y = tt
-and_T true false x y = y
-and_T false b x y = x
-
 below_tables : (n : NsName) (es : List (NsName × Stock)) → AllByRecursion (λ y. namespace_cmp n y ≡ Less) (each (λ e. e.0) es) → T (below_all namespace_cmp n (named_tables es))
 below_tables n [] a = tt
 below_tables n (e ∷ es) a = rw a.0 (below_tables n es a.1)

@@ -157,7 +157,7 @@ below_named : (n : Key) (ds : List Tree) → AllAfter key_cmp definition_name n 
 below_named n [] a = tt
 below_named n (d ∷ ds) a = rw a.0 (below_named n ds a.1)
 
-and_T : (a b : Bool) → T a → T b → T (a && b)
+pub and_T : (a b : Bool) → T a → T b → T (a && b)
 and_T true true x y = tt
 and_T true false x y = y
 and_T false b x y = x

@@ -22,7 +22,7 @@ AreKeptWell count ts = (n : NsName) (t : Table) → map.get ts n ≡ Some t → 
 pub later : (count : ℕ) (ts : Tables) → AreKeptWell count ts → AreKeptWell (count + 1) ts
 later count ts h n t e = let w = h n t e in (w.0, (let a = w.1 in omega arith), (let a = w.2 in omega arith))
 
-some_table : (a b : Table) → Some a ≡ Some b → a ≡ b
+pub some_table : (a b : Table) → Some a ≡ Some b → a ≡ b
 some_table a b e = cc
 
 pub no_table : (t : Table) → None ≡ Some t → ⊥

@@ -24,6 +24,7 @@ use Rattle.copy_model.specs.Copies.{Event, Wrote, Copied, happens, after, moves_
 use Rattle.copy_model.specs.Torn.{Waits, IsCovered}
 use Rattle.copy_model.proofs.Scan.{scan_from, scan_reaches, scan_ends}
 use Rattle.copy_model.proofs.RowWrites.{RowKept}
+use Rattle.coll_state.proofs.Sound.{some_table as same_table}
 
 -- what the copy's part needs of a write: it keeps what it doesn't cover, documents with their numbers and incarnations too, and rows stay in order
 abbrev pub AllRise : Rows → Type 0
@@ -147,9 +148,6 @@ closed_inv x ms n c w inv all = record {
     at m i k g h e (inl s) =
         inl (subst (λ (z : NsName). stands x (Inside z (Document i [])) ≢ None → any_move_covers ms (Inside z (Document i [])) ≡ false → copied w.reads z i ≢ None) (sym (ns_is m n s)) (all i) h e)
     at m i k g h e (inr s) = inv.pending m i k (sym (ns_insert_else w.cursors n (ended_now c) m s) ∙ g) h e
-
-pub same_table : (a b : Table) → Some a ≡ Some b → a ≡ b
-same_table a b e = cc
 
 -- a step that reads
 pub taken_read : (x : State) (ms : List Move) (n : NsName) (k : ℕ) (c : Cursor) (t : Table) (w : Copy) → Holds x ms w → map.get w.rows.tables n ≡ Some t →

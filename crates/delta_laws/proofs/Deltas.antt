@@ -103,11 +103,11 @@ recorded : (form : Form) (d doc : Fields) (u : Updated) → ops_fault d ≡ None
 recorded V1 d doc u s e = first_form_records (operators d) doc u e
 recorded V2 d doc u s e = second_records d doc u s e
 
-writable_each : (form : Form) (z : Value) (ts : List Touch) → ArePlainTouches z ts → (t : Touch) → In t (in_form form z ts) → IsWritable form t
+pub writable_each : (form : Form) (z : Value) (ts : List Touch) → ArePlainTouches z ts → (t : Touch) → In t (in_form form z ts) → IsWritable form t
 writable_each V1 z ts h = all_first z ts h
 writable_each V2 z ts h = all_second z ts h
 
-enough : (form : Form) (fs : Fields) → levels_of fs ≤ updating.level_limit → AreEnough form level_limit (Object fs)
+pub enough : (form : Form) (fs : Fields) → levels_of fs ≤ updating.level_limit → AreEnough form level_limit (Object fs)
 enough V1 fs l = tt
 enough V2 fs l = levels_fit fs l
   where

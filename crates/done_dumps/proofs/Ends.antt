@@ -19,6 +19,7 @@ use Rattle.history_model.proofs.AtTheMark.{lines_made, lines_rise}
 use Rattle.done_dumps.specs.Laws.{IsTold, IsNoMark, AreNoMarks, UnmarkedDumpsEndLast, UnmarkedStatesAreLast}
 use Rattle.done_dumps.proofs.Behind.{Kept, StepsKeep, finished_keeps, base_kept}
 use Rattle.done_dumps.proofs.Marked.{done_marked}
+use Rattle.history_model.proofs.Sent.{not_marked as none_not}
 
 abbrev end_of : Option DumpState → Option Ts
 end_of o = (moments_of o).end_ts
@@ -136,9 +137,6 @@ run_ends : (s : Schedule) → AreNoMarks s.lines → EndsNow (run s)
 run_ends s n =
     let r = after_lines s.lines (first_run s.caps) in
     finished_keeps EndsNow steps_end r (inl (lines_unmarked s.lines (first_run s.caps) n refl))
-
-none_not : (ts : Ts) → None ≡ Some ts → ⊥
-none_not ts e = cc
 
 pub ends_last : UnmarkedDumpsEndLast
 ends_last s n done = by (done_marked s done) (run_ends s n)

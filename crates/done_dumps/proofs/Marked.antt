@@ -9,7 +9,7 @@ use Rattle.schedule_model.specs.declared.line.Line.TheVariants.{Cmd, Dump, Copy,
 use Rattle.schedule_model.specs.declared.refused.Refused.{Refused}
 use Rattle.history_model.specs.Stages.{Stage, Effect, stage_by, stage_after}
 use Rattle.history_model.specs.Commands.{effects, set_by, answered}
-use Rattle.history_model.specs.Runs.{Refusal, NotNow, DumpState, Outcome, Done, Renamed, Rolled, Run, first_run, is_gone, oldest, first_dump_state, all_ended, renamed_since, rolled, marked_by, marked, still, in_dump, commanded, or_refused, after_line, after_lines, last_step, names_in, copied_out, begun, tailed_out, marked_out, finished}
+use Rattle.history_model.specs.Runs.{Refusal, NotNow, DumpState, Outcome, Done, Run, first_run, is_gone, oldest, first_dump_state, all_ended, renamed_since, rolled, marked_by, marked, still, in_dump, commanded, or_refused, after_line, after_lines, last_step, names_in, copied_out, begun, tailed_out, marked_out, finished}
 use Rattle.history_model.specs.Histories.{moments_of}
 use Rattle.history_model.proofs.Inductive.{told_same, nothing_sound}
 use Rattle.history_model.proofs.Tables.{write_sound}
@@ -19,6 +19,7 @@ use Rattle.history_model.proofs.CopiedOut.{copy_all, all_out, all_said}
 use Rattle.history_model.proofs.WholeRun.{repeated_lines, finished_lines}
 use Rattle.history_model.proofs.Ended.{HasMark, mark_stays}
 use Rattle.done_dumps.specs.Laws.{IsTold, DoneDumpsAreMarked}
+use Rattle.history_model.proofs.AtTheMark.{not_done as not_renamed, not_failed as not_rolled}
 
 -- ---- rows stay in order
 
@@ -51,12 +52,6 @@ lines_sound (l ∷ ls) r h = lines_sound ls (after_line l r) (line_sound l r h)
 
 abbrev HasSomeMark : Run → Type 0
 HasSomeMark r = (ts : Ts) × HasMark ts r
-
-not_renamed : (a : Ts) → Renamed a ≡ Done → ⊥
-not_renamed a e = cc
-
-not_rolled : (a b : Ts) → Rolled a b ≡ Done → ⊥
-not_rolled a b e = cc
 
 mark_by : (d : DumpState) (t : Run) (o : Option Ts) → (marked_by o d t).outcome ≡ Done → HasSomeMark (marked_by o d t)
 mark_by d t (Some ts) h = absurd (not_renamed ts h)

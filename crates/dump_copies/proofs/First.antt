@@ -83,7 +83,7 @@ next_there ts cs left rest n w e = map.contains_key-keys ts n ∙ (ap (list_any 
 
 -- ---- their order
 
-less_of : (o : Ordering) → T (is_lt o) → o ≡ Less
+pub less_of : (o : Ordering) → T (is_lt o) → o ≡ Less
 less_of Less t = refl
 less_of Equal t = absurd t
 less_of Greater t = absurd t
@@ -178,7 +178,7 @@ writer_found ts cs q a e = by (found (at_name q) cs) refl
     by None f = absent (λ (t : Table). written.begun q) (map.get ts q) (sym (there_or_not ts cs q e) ∙ ap is_some f)
     by (Some c) f = (let g = first_found ts cs q c a f in ap Some (g.1.2 ∙ ap written.begun g.0) ∙ some_there (written.begun q) (map.get ts q) (sym (there_or_not ts cs q e) ∙ ap is_some f))
 
-find_writers : (es : List (NsName × Table)) (q : NsName) → map.find namespace_cmp q (writers_of es) ≡ option_map (λ (t : Table). written.begun q) (map.find namespace_cmp q es)
+pub find_writers : (es : List (NsName × Table)) (q : NsName) → map.find namespace_cmp q (writers_of es) ≡ option_map (λ (t : Table). written.begun q) (map.find namespace_cmp q es)
 find_writers [] q = refl
 find_writers (e ∷ es) q = by (same_ns q e.0) refl (find_writers es q)
   where

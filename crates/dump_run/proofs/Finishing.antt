@@ -24,6 +24,7 @@ use Rattle.dump_run.specs.Dumps.{Dumping, Meets}
 use Rattle.dump_run.specs.Calls.{steps_text, Writes, WritesFront, ComesTo, Fails, Does}
 use Rattle.dump_run.specs.Faults.{is_refusal}
 use Rattle.dump_run.proofs.Repeating.{Grows, Later, IsTurn, later_refl, later_trans, taken, stays, goes, repeated_later, copied_later, copy_stops, tail_stops}
+use Rattle.dump_run.proofs.Reading.{some_is, none_some}
 
 -- ---- what is written
 
@@ -242,12 +243,6 @@ module _ (c : Caps) (names : List NsName) (r : Run) (old new : Dumping) (first b
 
 -- ---- all of it
 
-some_is : {A : Type 0} (x y : A) → Some x ≡ Some y → x ≡ y
-some_is x y e = cc
-
-none_some : {A B : Type 0} (x : A) → None ≡ Some x → B
-none_some x e = cc
-
 finished_is : (r : Run) (d : DumpState) → r.dump ≡ Some d → finished r ≡ tailed_out (marked_out (copied_out (map.keys d.cursors) r))
 finished_is r d e = ap (λ (o : Option DumpState). tailed_out (marked_out (copied_out (names_in (begun o r).dump) (begun o r)))) e ∙ ap (λ (o : Option DumpState). tailed_out (marked_out (copied_out (names_in o) r))) e
 
@@ -309,7 +304,7 @@ module _ (c : Caps) (r : Run) (st : Stored) (d : Dumping) (ok : RunOk c r) (stan
 
 -- ---- a tail step that isn't the last
 
-until_few : (b : Ts) (es : List Entry) → length (until b es) ≤ length es
+pub until_few : (b : Ts) (es : List Entry) → length (until b es) ≤ length es
 until_few b [] = omega arith
 until_few b (x ∷ es) = by (not_later x.0 b) (until_few b es)
   where

@@ -5,8 +5,7 @@ use Rattle.std.specs.List.{list_any}
 use Rattle.std.specs.Ordering.{is_lt, is_eq}
 use Rattle.std.specs.FinMap as map
 use Rattle.std.specs.FinMap.Entries.{below_all}
-use Rattle.std.specs.declared.cmp.Ordering.{Ordering}
-use Rattle.std.specs.declared.cmp.Ordering.TheVariants.{Less, Equal, Greater}
+use Rattle.std.specs.declared.cmp.Ordering.TheVariants.{Less}
 use Rattle.bson_value.specs.declared.namespace.NsName.{NsName}
 use Rattle.bson_value.specs.NamespaceOrder.{namespace_cmp}
 use Rattle.archive_format.specs.Shapes.{Metadata}
@@ -18,6 +17,7 @@ use Rattle.state_model.proofs.Maps.{ns_map_same}
 use Rattle.coll_state.specs.Rows.{Table, Rows, collections_of, state_of}
 use Rattle.dump_model.specs.Archives.{metas_of, metadata_of}
 use Rattle.dump_run.specs.Preludes.{meta_at}
+use Rattle.dump_copies.proofs.First.{less_of}
 
 abbrev pub meta_of_name : map.FinMap namespace_cmp Table → NsName → Metadata
 meta_of_name ts n = meta_at n (map.get ts n)
@@ -52,11 +52,6 @@ metas_on ts ms next left rest n m whole w e f g =
     more (x ∷ xs) = ap (λ (z : List Metadata). parts.metadata_of x ∷ z) (more xs)
 
 -- ---- all of them
-
-less_of : (o : Ordering) → T (is_lt o) → o ≡ Less
-less_of Less t = refl
-less_of Equal t = absurd t
-less_of Greater t = absurd t
 
 first_of : (a b : Bool) → T (a && b) → T a
 first_of true b t = tt

@@ -1,19 +1,20 @@
 -- Where the entry at a moment stands in a ring, and whether it is gone.
 use Rattle.std.proofs.Common.{◌≡◌, ℕ, zero, suc, ◌<◌, List, [], ◌∷◌, ◌++◌, length, Bool, true, false, Some, None, refl, sym, ap, ◌∙◌, append_assoc, arith}
-use Rattle.std.specs.Prelude.{◌||◌, ◌&&◌, ◌==◌, not, option_map, unwrap_or, slice_get}
+use Rattle.std.specs.Prelude.{◌||◌, ◌==◌, not, option_map, unwrap_or, slice_get}
 use Rattle.std.specs.List.{list_any}
 use Rattle.std.specs.Ordering.{nat_cmp, ordering_then, ordering_reverse}
 use Rattle.std.specs.Cmp.{nat_cmp_total}
 use Rattle.std.specs.FinMap.{nat_cmp-IsAntisymmetric}
 use Rattle.std.specs.declared.cmp.Ordering.{Ordering}
 use Rattle.std.specs.declared.cmp.Ordering.TheVariants.{Less, Equal, Greater}
-use Rattle.std.proofs.lemmas.Bool.{eqb-true, eq-eqb, and_from}
+use Rattle.std.proofs.lemmas.Bool.{eq-eqb, and_from}
 use Rattle.bson_value.specs.declared.value.Ts.{Ts}
 use Rattle.bson_value.specs.Timestamp.{stamp_cmp, stamp_number}
 use Rattle.capped_oplog.specs.Ring.{Entry, stamp_at, IsPlaceOf}
 use Rattle.history_model.specs.Stages.{Oplog, ring_entry, turned}
 use Rattle.history_model.specs.Runs.{is_same, is_gone, oldest}
 use Rattle.dump_run.specs.Rings.{StandsAt}
+use Rattle.history_model.proofs.InTheRing.{same_ts}
 
 -- ---- timestamps
 
@@ -38,13 +39,6 @@ same_number a b e f = same_stamp a b (e ∙ (ap (λ (n : ℕ). nat_cmp n (stamp_
 
 same_self : (a : Ts) → is_same a a ≡ true
 same_self a = and_from (a.secs == a.secs) (a.inc == a.inc) (eq-eqb a.secs a.secs refl) (eq-eqb a.inc a.inc refl)
-
-both : (x y : Bool) → (x && y) ≡ true → (x ≡ true) × (y ≡ true)
-both true y e = (refl, e)
-both false y e = cc
-
-same_ts : (a b : Ts) → is_same a b ≡ true → a ≡ b
-same_ts a b h = (let g = both (a.secs == b.secs) (a.inc == b.inc) h in let x = eqb-true a.secs b.secs g.0 in let y = eqb-true a.inc b.inc g.1 in λ i. record { secs = x i; inc = y i })
 
 -- ---- places
 

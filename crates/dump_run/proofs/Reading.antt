@@ -35,6 +35,7 @@ use Rattle.dump_run.specs.Faults.{of_sink}
 use Rattle.dump_run.specs.Calls.{Writes, WritesFront, ComesTo}
 use Rattle.dump_run.proofs.Texts.{sum_here, sum_else}
 use Rattle.dump_run.proofs.Lines.{copy_on, copy_ended, copy_none, pieces_push, documents_push, entries_same, text_read}
+use Rattle.dump_copies.proofs.First.{find_writers}
 
 -- a dump by its parts
 abbrev pub dump_of : Copying → Writing → Ts → Ts → Option Ts → ℕ → Bool → ℕ → ℕ → Option DumpFault → Dumping
@@ -48,15 +49,6 @@ dump_of c w start last mark sent closed documents entries failed = record {
 }
 
 -- ---- as it begins
-
-find_writers : (es : List (NsName × Table)) (q : NsName) → map.find namespace_cmp q (writers_of es) ≡ option_map (λ (t : Table). written.begun q) (map.find namespace_cmp q es)
-find_writers [] q = refl
-find_writers (e ∷ es) q = by (same_ns q e.0) refl (find_writers es q)
-  where
-    by : (b : Bool) → same_ns q e.0 ≡ b → map.find namespace_cmp q (writers_of es) ≡ option_map (λ (t : Table). written.begun q) (map.find namespace_cmp q es) →
-        cond b (Some (written.begun e.0)) (map.find namespace_cmp q (writers_of es)) ≡ option_map (λ (t : Table). written.begun q) (cond b (Some e.1) (map.find namespace_cmp q es))
-    by true s h = ap (λ (n : NsName). Some (written.begun n)) (sym (ns_is q e.0 s))
-    by false s h = h
 
 get_writer : (r : Rows) (n : NsName) → map.get (begin r).writers n ≡ option_map (λ (t : Table). written.begun n) (map.get r.tables n)
 get_writer r n = map.get-from_entries ns_total (writers_of (map.entries r.tables)) n ∙ (find_writers (map.entries r.tables) n ∙ ap (option_map (λ (t : Table). written.begun n)) (sym (map.get-entries r.tables n)))
@@ -100,10 +92,10 @@ other_ns m n e = by (archive.same_ns n m) refl
     by true h = clash (same_ns m n) (ns_from m n (sym (same_is n m h))) e
     by false h = refl
 
-some_is : {A : Type 0} (x y : A) → Some x ≡ Some y → x ≡ y
+pub some_is : {A : Type 0} (x y : A) → Some x ≡ Some y → x ≡ y
 some_is x y e = cc
 
-none_some : {A B : Type 0} (x : A) → None ≡ Some x → B
+pub none_some : {A B : Type 0} (x : A) → None ≡ Some x → B
 none_some x e = cc
 
 -- sums behind one step more
@@ -113,7 +105,7 @@ writing_here n ss rs b = ap (λ (x : ℕ). record { ns = n; sum = x }) (sym (ap 
 pub writing_else : (m n : NsName) (ss : List Step) (rs : List Row) (b : Bool) → same_ns m n ≡ false → writing_of m ss ≡ writing_of m (ss ++ (Documents n rs b ∷ []))
 writing_else m n ss rs b e = ap (λ (x : ℕ). record { ns = m; sum = x }) (sym (ap (sum_of m) (pieces_push ss (Documents n rs b)) ∙ sum_else m n (all_pieces ss) (document_texts rs) b (other_ns m n e)))
 
-counted_more : (a b k : ℕ) → a ≡ counted b → min (a + k) (2 ^ 64 - 1) ≡ counted (b + k)
+pub counted_more : (a b k : ℕ) → a ≡ counted b → min (a + k) (2 ^ 64 - 1) ≡ counted (b + k)
 counted_more a b k e = omega (arith, e)
 
 module _ (old new : Copying) (w : Writing) (start last : Ts) (mark : Option Ts) (sent : ℕ) (closed : Bool) (documents entries : ℕ) (r : Run) (s : Stored) (n : NsName) (k count : ℕ) (before after : Option (List ℕ)) (cursor : Cursor) (writer : Writing)

@@ -36,11 +36,8 @@ use Rattle.dump_run.specs.Rings as rings
 use Rattle.dump_run.proofs.Texts.{sum_here, sum_else}
 use Rattle.dump_run.proofs.Lines.{tail_by, pieces_push, documents_same, entries_push, text_sent}
 use Rattle.dump_run.proofs.Places.{gone, not_gone}
-use Rattle.dump_run.proofs.Reading.{dump_of, opened, other_ns}
+use Rattle.dump_run.proofs.Reading.{dump_of, opened, other_ns, none_some, counted_more}
 use Rattle.dump_run.proofs.Windows.{next_in_ring, last_in_ring, window_short}
-
-none_some : {A B : Type 0} (x : A) → None ≡ Some x → B
-none_some x e = cc
 
 writing_there : (ss : List Step) (es : List OplogEntry) (b : Bool) → with_documents (writing_of oplog ss) (each entry_bytes es) ≡ writing_of oplog (ss ++ (Entries es b ∷ []))
 writing_there ss es b = ap (λ (x : ℕ). record { ns = oplog; sum = x }) (sym (ap (sum_of oplog) (pieces_push ss (Entries es b)) ∙ sum_here oplog (all_pieces ss) (each entry_bytes es) b))
@@ -52,9 +49,6 @@ within : (xs : List Entry) (i : ℕ) (x : Entry) → slice_get xs i ≡ Some x �
 within [] i x e = cc
 within (y ∷ xs) zero x e = omega arith
 within (y ∷ xs) (suc i) x e = (let l = within xs i x e in omega (arith, l))
-
-counted_more : (a b k : ℕ) → a ≡ counted b → min (a + k) (2 ^ 64 - 1) ≡ counted (b + k)
-counted_more a b k e = omega (arith, e)
 
 module _ (c : Copying) (w : Writing) (start last b : Ts) (mark : Option Ts) (sent : ℕ) (closed : Bool) (documents entries : ℕ) (failed : Option DumpFault) (d : Dumping) (caps : Caps) (r : Run) (ring : List Entry) (n : ℕ) (is : dump_of c w start last mark sent closed documents entries failed ≡ d)
     (marked : mark ≡ Some b) (open_yet : closed ≡ false) (is_ring : ring ≡ turned r.stage.oplog) (ok : RunOk caps r) (m : Meets d r) where

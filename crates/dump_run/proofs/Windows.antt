@@ -12,6 +12,8 @@ use Rattle.history_model.specs.Invariants.{RisesTo, Holds}
 use Rattle.history_model.proofs.Order.{earlier_trans, earlier_turn, earlier_not}
 use Rattle.history_model.proofs.InTheRing.{front}
 use Rattle.dump_run.specs.Rings.{until, bytes_of}
+use Rattle.history_model.proofs.RingLongest.{turned_join}
+use Rattle.dump_run.proofs.Finishing.{until_few as until_short}
 
 -- each is later than the one before it
 abbrev pub Chain : Ts → List Entry → Type 0
@@ -119,14 +121,6 @@ window_in_ring low b front ring rest s p k c e =
 
 -- ---- the ring of a stage, and all entries
 
-turned_join : (xs ys : Oplog) → turned (xs ++ ys) ≡ turned ys ++ turned xs
-turned_join [] ys = sym (none (turned ys))
-  where
-    none : (zs : List Entry) → zs ++ [] ≡ zs
-    none [] = refl
-    none (z ∷ zs) = ap (λ (l : List Entry). z ∷ l) (none zs)
-turned_join (x ∷ xs) ys = ap (λ (z : List Entry). z ++ (ring_entry x ∷ [])) (turned_join xs ys) ∙ append_assoc (turned ys) (turned xs) (ring_entry x ∷ [])
-
 turned_all : (ms : List Made) (es : Oplog) → turned (newest_first ms es) ≡ turned es ++ each ring_entry (each entry_of ms)
 turned_all [] es = sym (none (turned es))
   where
@@ -213,14 +207,6 @@ last_in_ring c r a b bytes p k n h e =
     ∙ last_by (length (window a b (entries_from r))) k n)
 
 -- a window has no more entries than the ring
-until_short : (b : Ts) (xs : List Entry) → length (until b xs) ≤ length xs
-until_short b [] = omega arith
-until_short b (x ∷ xs) = by (up_to b x) (until_short b xs)
-  where
-    by : (t : Bool) → length (until b xs) ≤ length xs → length (if t then x ∷ until b xs else []) ≤ suc (length xs)
-    by true l = omega arith
-    by false l = omega arith
-
 pub window_short : (c : Caps) (r : Run) (a b : Ts) (bytes : List ℕ) (p : ℕ) → Holds c r.stage r.made → slice_get (turned r.stage.oplog) p ≡ Some (a, bytes) →
     length (window a b (entries_from r)) ≤ length (turned r.stage.oplog)
 window_short c r a b bytes p h e =

@@ -8,7 +8,7 @@ use Rattle.json_tree.specs.declared.tree.Tree.{Tree}
 use Rattle.doc_path.specs.declared.parts.Form.{Form}
 use Rattle.state_model.specs.Keys.{key_cmp, same_ns}
 use Rattle.state_model.proofs.Maps.{ns_at_insert}
-use Rattle.coll_state.specs.Rows.{Document as Fields, Row, Table, Rows, id_of}
+use Rattle.coll_state.specs.Rows.{Document as Fields, Row, Rows, id_of}
 use Rattle.coll_state.specs.Changes.{fresh_table, create}
 use Rattle.update_model.specs.declared.updated.Updated.{Updated}
 use Rattle.update_model.specs.Equality.{same}
@@ -25,10 +25,13 @@ use Rattle.history_model.specs.Entries.{update_item}
 use Rattle.history_model.specs.Entries as entries
 use Rattle.history_model.specs.Stages.{Write, Stage, Effect, Made, Single, rows_by, stage_by, stage_after, made_in}
 use Rattle.history_model.specs.Refusals.{is_there, row_at, update_of, first_of}
-use Rattle.history_model.specs.Commands.{RecordedWrite, put_change, unless_same, update_changes, replace_changes, insert_changes, under_id, document_changes, changes_together, group_of, is_too_large, or_too_large, grouped, one_each, unless_refused, index_effects, command_rows, command_effects, effects, set_by, answered, applied}
+use Rattle.history_model.specs.Commands.{RecordedWrite, put_change, unless_same, update_changes, replace_changes, insert_changes, under_id, document_changes, changes_together, group_of, is_too_large, grouped, one_each, unless_refused, index_effects, command_rows, command_effects, effects, set_by, answered, applied}
 use Rattle.history_model.specs.Indexes.{IndexesOf, IndexesHold}
 use Rattle.history_model.proofs.Accepted.{same_ok}
 use Rattle.history_model.proofs.Inductive.{told_same}
+use Rattle.coll_state.proofs.Sound.{some_table as same_table}
+use Rattle.history_model.proofs.IndexesHeld.{no_tree}
+use Rattle.history_model.proofs.WellFormed.{small_enough as or_large}
 
 -- ---- before the first write, between each two, and behind the last
 
@@ -50,12 +53,6 @@ abbrev AllButLastMake : List Effect → Type 0
 AllButLastMake [] = ⊤
 AllButLastMake (d ∷ []) = ⊤
 AllButLastMake (d ∷ (e ∷ ds)) = Makes d.0 × AllButLastMake (e ∷ ds)
-
-no_tree : {A : Type 0} (d : Tree) → None ≡ Some d → A
-no_tree d e = cc
-
-same_table : (a b : Table) → Some a ≡ Some b → a ≡ b
-same_table a b e = cc
 
 created_holds : (n : NsName) (o : Tree) (r : Rows) → IndexesHold r → IndexesHold (create n o r)
 created_holds n o r h m t e = by (same_ns m n) (sym (ns_at_insert r.tables n (fresh_table r.count o) m) ∙ e)
@@ -131,10 +128,6 @@ command_makes (Txn ds) st = tt
 group_makes : (cs : List RecordedWrite) → AllButLastMake (group_of cs)
 group_makes [] = tt
 group_makes (c ∷ cs) = tt
-
-or_large : (b : Bool) (ds es : List Effect) → or_too_large b ds ≡ Ok es → ds ≡ es
-or_large true ds es h = cc
-or_large false ds es h = cc
 
 grouped_makes : (x : Result (List RecordedWrite) Refused) (ds : List Effect) → grouped x ≡ Ok ds → AllButLastMake ds
 grouped_makes (Err x) ds e = cc

@@ -10,7 +10,7 @@ use Rattle.schedule_model.specs.declared.line.Line.{Line}
 use Rattle.schedule_model.specs.declared.line.Line.TheVariants.{Cmd, Dump, Copy, Mark, Tail}
 use Rattle.schedule_model.specs.declared.refused.Refused.{Refused}
 use Rattle.index_build.specs.Faults.{fault}
-use Rattle.history_model.specs.Stages.{Write, earlier, Stage, Made, Effect, rows_by, stage_by, stage_after, made_in, first_ts}
+use Rattle.history_model.specs.Stages.{Write, earlier, Stage, Made, Effect, rows_by, stage_after, made_in, first_ts}
 use Rattle.history_model.specs.Commands.{effects, set_by, answered, applied}
 use Rattle.history_model.specs.Runs.{Run, NotTaken, commanded, or_refused, after_line, after_lines, first_run, run}
 use Rattle.history_model.specs.Histories.{history_of, is_before, is_up_to, moments, state, at}
@@ -20,7 +20,7 @@ use Rattle.history_model.specs.Indexes.{IndexesHold}
 use Rattle.history_model.proofs.Accepted.{same_ok}
 use Rattle.history_model.proofs.Order.{earlier_trans}
 use Rattle.history_model.proofs.Inductive.{told_same}
-use Rattle.history_model.proofs.Modelled.{same_after}
+use Rattle.history_model.proofs.Modelled.{same_after, made_rows}
 use Rattle.history_model.proofs.AtTheMark.{lines_made, lines_rise}
 use Rattle.history_model.proofs.Limited.{still_late}
 use Rattle.history_model.proofs.Before.{history_state}
@@ -35,10 +35,6 @@ use Rattle.held_moments.proofs.Effects.{HoldThrough, applied_through}
 through_join : (xs ys : List Made) (r : Rows) → HoldThrough xs r → HoldThrough ys (rows_of_made xs r) → HoldThrough (xs ++ ys) r
 through_join [] ys r h g = g
 through_join (x ∷ xs) ys r h g = (h.0, through_join xs ys (rows_by x.write r) h.1 g)
-
-made_rows : (ds : List Effect) (st : Stage) → rows_of_made (made_in ds st) st.rows ≡ (stage_after ds st).rows
-made_rows [] st = refl
-made_rows (d ∷ ds) st = made_rows ds (stage_by d st)
 
 applied_rows : (k : Command) (st : Stage) (x : Stage × List Made) → applied k st ≡ Ok x → rows_of_made x.1 st.rows ≡ x.0.rows
 applied_rows k st x e = by (effects k st) e

@@ -38,12 +38,12 @@ use Rattle.history_model.specs.Entries.{Item, item_moves, delta_or_whole, update
 use Rattle.history_model.specs.Entries as entries
 use Rattle.history_model.specs.Stages.{Stage, Effect, rows_by, stage_by, made_in}
 use Rattle.history_model.specs.Refusals.{first_of, document_rows, document_refusal, index_rows, row_in, row_at, row_named, accepted, update_of}
-use Rattle.history_model.specs.Commands.{RecordedWrite, put_change, unless_same, update_changes, replace_changes, insert_changes, under_id, document_changes, rows_of_changes, and_then, changes_together, group_of, is_too_large, or_too_large, grouped, one_each, unless_refused, index_effects, command_rows, command_effects, effects}
+use Rattle.history_model.specs.Commands.{RecordedWrite, put_change, unless_same, update_changes, replace_changes, insert_changes, under_id, document_changes, rows_of_changes, and_then, changes_together, group_of, is_too_large, grouped, one_each, unless_refused, index_effects, command_rows, command_effects, effects}
 use Rattle.history_model.specs.Recordings.{EachRecorded, IsRecordedBy, AllMade}
 use Rattle.bson_value.specs.WellFormed.{IsWellFormedDocument}
 use Rattle.update_records.specs.Laws.{AreRecorded, UpdatesRecord}
 use Rattle.history_model.specs.WellFormed.{AreWellFormed, IsWellFormedChange, AreWellFormedChanges, IsWellFormedCommand}
-use Rattle.history_model.proofs.WellFormed.{accepted_ok, there_formed, made_leaves, document_formed}
+use Rattle.history_model.proofs.WellFormed.{accepted_ok, there_formed, made_leaves, document_formed, small_enough as not_too_large}
 
 -- where nothing is refused no condition holds
 abbrev pub AllFalse : List (Bool × Refused) → Type 0
@@ -184,16 +184,12 @@ group_ok : (cs : List RecordedWrite) (r : Rows) → ChangesOk cs r → EffectsOk
 group_ok [] r h = tt
 group_ok (c ∷ cs) r h = (each_ok (c ∷ cs) r h, tt)
 
-not_too_large : (b : Bool) (ds es : List Effect) → or_too_large b ds ≡ Ok es → ds ≡ es
-not_too_large true ds es h = cc
-not_too_large false ds es h = cc
-
 grouped_ok : (x : Result (List RecordedWrite) Refused) (r : Rows) (ds : List Effect) → ((cs : List RecordedWrite) → x ≡ Ok cs → ChangesOk cs r) → grouped x ≡ Ok ds → EffectsOk ds r
 grouped_ok (Err x) r ds h e = cc
 grouped_ok (Ok cs) r ds h e = subst (λ (z : List Effect). EffectsOk z r) (not_too_large (is_too_large (group_of cs)) (group_of cs) ds e) (group_ok cs r (h cs refl))
 
 -- what isn't refused, and that it isn't
-refused_none : (x : Option Refused) (ds es : List Effect) → unless_refused x ds ≡ Ok es → (x ≡ None) × (ds ≡ es)
+pub refused_none : (x : Option Refused) (ds es : List Effect) → unless_refused x ds ≡ Ok es → (x ≡ None) × (ds ≡ es)
 refused_none (Some x) ds es h = cc
 refused_none None ds es h = (refl, cc)
 

@@ -9,7 +9,7 @@ use Rattle.update_records.specs.Laws.{UpdatesRecord}
 use Rattle.history_model.specs.WellFormed.{AreWellFormedLines}
 use Rattle.history_model.proofs.Runs.{run_good}
 
-same_some : (a b : Ts) → Some a ≡ Some b → a ≡ b
+pub same_some : (a b : Ts) → Some a ≡ Some b → a ≡ b
 same_some a b e = cc
 
 marked_free : (a b start : Ts) (o : Option Ts) (st : Stage) (ms : List Made) → MarkedOk start o st ms → start ≡ a → o ≡ Some b → NoRename a b ms

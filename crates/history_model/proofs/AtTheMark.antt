@@ -29,9 +29,10 @@ use Rattle.history_model.proofs.Order.{earlier_turn, earlier_not}
 use Rattle.history_model.proofs.Inductive.{of_rename, each_map, each_both, all_above}
 use Rattle.history_model.proofs.Torn.{torn_run}
 use Rattle.history_model.proofs.Modelled.{SameBase, line_same, same_after, each_first}
+use Rattle.history_model.proofs.Limited.{append_none}
 
 -- all have ended, told by the map's entries and by its keys
-both : (x y : Bool) → (x && y) ≡ true → (x ≡ true) × (y ≡ true)
+pub both : (x y : Bool) → (x && y) ≡ true → (x ≡ true) × (y ≡ true)
 both true y e = (refl, e)
 both false y e = cc
 
@@ -58,13 +59,13 @@ pub record Found (r : Run) : Type 0 where
   pub none : renamed_since copy.start r.stage.renamed ≡ None
   pub live : r.outcome ≡ Done
 
-not_done : (ts : Ts) → Renamed ts ≡ Done → ⊥
+pub not_done : (ts : Ts) → Renamed ts ≡ Done → ⊥
 not_done ts e = cc
 
-not_failed : (a b : Ts) → Rolled a b ≡ Done → ⊥
+pub not_failed : (a b : Ts) → Rolled a b ≡ Done → ⊥
 not_failed a b e = cc
 
-same_run : (a b : Run) → ◌≡◌ {A = Result Run Refusal} (Ok a) (Ok b) → a ≡ b
+pub same_run : (a b : Run) → ◌≡◌ {A = Result Run Refusal} (Ok a) (Ok b) → a ≡ b
 same_run a b e = cc
 
 split_false : (x y : Bool) → (x || not y) ≡ false → y ≡ true
@@ -170,10 +171,6 @@ lines_start ts (l ∷ ls) r s = lines_start ts ls (after_line l r) (by (on_line 
     by (Err a) h = s
 
 -- what the lines make
-append_none : (xs : List Made) → xs ++ [] ≡ xs
-append_none [] = refl
-append_none (x ∷ xs) = ap (λ (z : List Made). x ∷ z) (append_none xs)
-
 step_made : (i : ℕ) (r : Run) (x : Result Run Refusal) → SameBase r x → (or_refused i x r).made ≡ r.made ++ []
 step_made i r (Ok s) h = h.1 ∙ sym (append_none r.made)
 step_made i r (Err x) h = sym (append_none r.made)

@@ -31,21 +31,12 @@ use Rattle.history_model.proofs.Modelled.{SameBase, line_same, each_first}
 use Rattle.history_model.proofs.Mirrored.{lines_stay}
 use Rattle.history_model.proofs.Runs.{lines_good}
 use Rattle.history_model.proofs.Torn.{made_parted, rows_parted}
-use Rattle.history_model.proofs.AtTheMark.{all_have_ended, found, StartIs, lines_start, lines_made, lines_rise, rises_join, last_made, last_parted, no_renames}
+use Rattle.history_model.proofs.AtTheMark.{all_have_ended, found, StartIs, lines_start, lines_made, lines_rise, rises_join, last_made, last_parted, no_renames, not_done, not_failed, same_run}
 use Rattle.history_model.proofs.WholeRun.{lines_append}
 use Rattle.history_model.proofs.WindowMoves.{inside, each_append, window_moves}
 use Rattle.history_model.proofs.Ended.{same_copy, AllRead, all_read, HasMark, mark_stays, ends_at, just_started}
 use Rattle.history_model.proofs.Limited.{Earlier, Late, cut_at, before_limit, history_front, EachOf, of_made, entries_front}
 use Rattle.history_model.proofs.TornMore.{torn_more}
-
-not_done : (ts : Ts) → Renamed ts ≡ Done → ⊥
-not_done ts e = cc
-
-not_failed : (a b : Ts) → Rolled a b ≡ Done → ⊥
-not_failed a b e = cc
-
-same_run : (a b : Run) → ◌≡◌ {A = Result Run Refusal} (Ok a) (Ok b) → a ≡ b
-same_run a b e = cc
 
 -- what a mark that succeeds makes of a run
 pub record MadeMark (r s : Run) : Type 0 where

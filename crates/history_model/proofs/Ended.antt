@@ -16,7 +16,7 @@ use Rattle.history_model.proofs.Steps.{Steps, after_one, after_all}
 pub same_copy : (a b : DumpState) → Some a ≡ Some b → a ≡ b
 same_copy a b e = cc
 
-no_dump : {A : Type 0} (d : DumpState) → None ≡ Some d → A
+pub no_dump : {A : Type 0} (d : DumpState) → None ≡ Some d → A
 no_dump d e = cc
 
 -- ---- every cursor has ended: nothing is read any more, and the last read stays
@@ -59,7 +59,7 @@ pub record HasMark (ts : Ts) (r : Run) : Type 0 where
   pub there : r.dump ≡ Some copy
   pub marked : copy.mark ≡ Some ts
 
-marked_not : (o : Option Ts) (ts : Ts) → o ≡ Some ts → is_some o ≡ false → ⊥
+pub marked_not : (o : Option Ts) (ts : Ts) → o ≡ Some ts → is_some o ≡ false → ⊥
 marked_not o ts e f = (let g : is_some o ≡ true = ap is_some e in true_false (is_some o) g f)
 
 has_mark_steps : (ts : Ts) → Steps (HasMark ts) (HasMark ts)

@@ -8,7 +8,7 @@ use Rattle.schedule_model.specs.declared.line.Line.{Line}
 use Rattle.schedule_model.specs.declared.line.Line.TheVariants.{Mark, Tail}
 use Rattle.history_model.specs.Entries.{OplogEntry}
 use Rattle.history_model.specs.Stages.{not_later, Caps, Made, entry_of}
-use Rattle.history_model.specs.Runs.{Schedule, Refusal, NotNow, DumpState, Outcome, Done, Renamed, Rolled, Run, first_run, entries_from, window, is_gone, oldest, first_dump_state, started, all_ended, renamed_since, rolled_or, rolled, marked_by, marked, sent_on, tailed_to, tailed, still, in_dump, on_line, after_lines, repeated, last_step, names_in, copied_out, begun, tailed_out, marked_out, finished, run}
+use Rattle.history_model.specs.Runs.{Schedule, Refusal, NotNow, DumpState, Outcome, Done, Run, first_run, entries_from, window, is_gone, oldest, first_dump_state, started, all_ended, renamed_since, rolled_or, rolled, marked_by, marked, sent_on, tailed_to, tailed, still, in_dump, on_line, after_lines, repeated, last_step, names_in, copied_out, begun, tailed_out, marked_out, finished, run}
 use Rattle.history_model.specs.Invariants.{RunOk}
 use Rattle.update_records.specs.Laws.{UpdatesRecord}
 use Rattle.history_model.specs.WellFormed.{IsWellFormedLine, AreWellFormedLines}
@@ -18,18 +18,13 @@ use Rattle.history_model.proofs.Mirrored.{lines_stay}
 use Rattle.history_model.proofs.WholeRun.{repeated_lines, finished_lines}
 use Rattle.history_model.proofs.Runs.{lines_good}
 use Rattle.history_model.proofs.Inductive.{first_holds}
+use Rattle.history_model.proofs.AtTheMark.{not_done as not_renamed, not_failed as not_rolled}
 
 pub record HasMark (r : Run) : Type 0 where
   pub copy : DumpState
   pub last : Ts
   pub there : r.dump ≡ Some copy
   pub marked : copy.mark ≡ Some last
-
-not_renamed : (a : Ts) → Renamed a ≡ Done → ⊥
-not_renamed a e = cc
-
-not_rolled : (a b : Ts) → Rolled a b ≡ Done → ⊥
-not_rolled a b e = cc
 
 mark_by : (d : DumpState) (t : Run) (o : Option Ts) → (marked_by o d t).outcome ≡ Done → HasMark (marked_by o d t)
 mark_by d t (Some ts) h = absurd (not_renamed ts h)

@@ -11,10 +11,7 @@ use Rattle.history_model.specs.Invariants.{RisesTo, Holds, Has}
 use Rattle.history_model.specs.Laws.{SendsKept}
 use Rattle.history_model.specs.Stages.{kept_if}
 use Rattle.history_model.proofs.Order.{earlier_trans}
-
-both : (x y : Bool) → (x && y) ≡ true → (x ≡ true) × (y ≡ true)
-both true y e = (refl, e)
-both false y e = cc
+use Rattle.history_model.proofs.AtTheMark.{both, not_done as renamed_not, not_failed as failed_not, same_run}
 
 abbrev pub EachKept : (OplogEntry → Type 0) → List OplogEntry → Type 0
 EachKept P [] = ⊤
@@ -101,7 +98,7 @@ apart [] ys u v f g h = absurd g
 apart (x ∷ xs) ys u v f (inl g) h = subst (λ (z : OplogEntry). earlier v.ts z.ts ≡ true) g (kept_at (λ (k : OplogEntry). earlier k.ts x.ts ≡ true) (xs ++ ys) v f.0 (has_right xs ys v h))
 apart (x ∷ xs) ys u v f (inr g) h = apart xs ys u v f.1 g h
 
-same_ts : (a b : Ts) → is_same a b ≡ true → a ≡ b
+pub same_ts : (a b : Ts) → is_same a b ≡ true → a ≡ b
 same_ts a b h = (let g = both (a.secs == b.secs) (a.inc == b.inc) h in let x = eqb-true a.secs b.secs g.0 in let y = eqb-true a.inc b.inc g.1 in λ i. record { secs = x i; inc = y i })
 
 found : (ts : Ts) (es : Oplog) → list_any (λ (e : OplogEntry). is_same ts e.ts) es ≡ true → (u : OplogEntry) × Has es u × (ts ≡ u.ts)
@@ -148,15 +145,6 @@ has_take zero xs k h = absurd h
 has_take (suc n) [] k h = h
 has_take (suc n) (x ∷ xs) k (inl h) = inl h
 has_take (suc n) (x ∷ xs) k (inr h) = inr (has_take n xs k h)
-
-failed_not : (a b : Ts) → Rolled a b ≡ Done → ⊥
-failed_not a b e = cc
-
-renamed_not : (a : Ts) → Renamed a ≡ Done → ⊥
-renamed_not a e = cc
-
-same_run : (a b : Run) → ◌≡◌ {A = Result Run Refusal} (Ok a) (Ok b) → a ≡ b
-same_run a b e = cc
 
 -- a tail step that doesn't fail sends entries that are still in the ring
 pub tail_kept : (c : Caps) (r s : Run) (n : ℕ) → Holds c r.stage r.made → in_dump (tailed n) r.dump r ≡ Ok s → s.outcome ≡ Done → SendsKept r s

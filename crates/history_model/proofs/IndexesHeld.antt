@@ -34,10 +34,12 @@ use Rattle.history_model.specs.Entries.{Item, update_item}
 use Rattle.history_model.specs.Entries as entries
 use Rattle.history_model.specs.Stages.{Stage, Effect, Made, rows_by, rows_all, stage_by, stage_after, made_in}
 use Rattle.history_model.specs.Refusals.{is_there, row_in, row_at, update_of, with_document, with_update, with_good, rows_with, texts_in, meet, clashes, unique_clash, any_parallel, any_definition, plan_in, definitions_in, rows_in, first_of, document_rows, document_refusal, index_rows}
-use Rattle.history_model.specs.Commands.{RecordedWrite, put_change, unless_same, update_changes, replace_changes, insert_changes, under_id, document_changes, rows_of_changes, and_then, changes_together, group_of, is_too_large, or_too_large, grouped, one_each, unless_refused, index_effects, command_rows, command_effects, effects, set_by, answered, applied}
+use Rattle.history_model.specs.Commands.{RecordedWrite, put_change, unless_same, update_changes, replace_changes, insert_changes, under_id, document_changes, rows_of_changes, and_then, changes_together, group_of, is_too_large, grouped, one_each, unless_refused, index_effects, command_rows, command_effects, effects, set_by, answered, applied}
 use Rattle.history_model.specs.Indexes.{IndexesOf, IndexesHold}
-use Rattle.history_model.proofs.Accepted.{all_false, same_ok}
+use Rattle.history_model.proofs.Accepted.{all_false, same_ok, refused_none as unless_told}
 use Rattle.history_model.proofs.Inductive.{told_same}
+use Rattle.coll_state.proofs.Sound.{some_table as same_table}
+use Rattle.history_model.proofs.WellFormed.{small_enough as or_large}
 
 -- ---- tests of rows
 
@@ -132,16 +134,13 @@ definition_false test rs m i d h e = in_entries (λ (t : Tree). test rs (plan_of
 
 -- ---- collections
 
-same_table : (a b : Table) → Some a ≡ Some b → a ≡ b
-same_table a b e = cc
-
-no_table : {A : Type 0} (t : Table) → None ≡ Some t → A
+pub no_table : {A : Type 0} (t : Table) → None ≡ Some t → A
 no_table t e = cc
 
-no_tree : {A : Type 0} (d : Tree) → None ≡ Some d → A
+pub no_tree : {A : Type 0} (d : Tree) → None ≡ Some d → A
 no_tree d e = cc
 
-same_tree : (a b : Tree) → Some a ≡ Some b → a ≡ b
+pub same_tree : (a b : Tree) → Some a ≡ Some b → a ≡ b
 same_tree a b e = cc
 
 abbrev Holding : Tables → Type 0
@@ -314,10 +313,6 @@ unfolding rows_of_effects
 group_rows [] r = refl
 group_rows (c ∷ cs) r = all_rows (c ∷ cs) r
 
-or_large : (b : Bool) (ds es : List Effect) → or_too_large b ds ≡ Ok es → ds ≡ es
-or_large true ds es h = cc
-or_large false ds es h = cc
-
 grouped_holds : (x : Result (List RecordedWrite) Refused) (r : Rows) (ds : List Effect) → ((cs : List RecordedWrite) → x ≡ Ok cs → IndexesHold (rows_of_changes cs r)) → grouped x ≡ Ok ds → IndexesHold (rows_of_effects ds r)
 grouped_holds (Err x) r ds h e = cc
 grouped_holds (Ok cs) r ds h e =
@@ -352,10 +347,6 @@ and_good false b e f = cc
 rename_holds : (r : Rows) (a b : NsName) (o : Option Table) → map.get r.tables a ≡ o → IndexesHold r → Holding (renamed_in a o b r.count r.tables)
 rename_holds r a b None e h = h
 rename_holds r a b (Some t) e h = hold_insert (map.remove r.tables a) b (with_incarnation r.count t) (hold_remove r.tables a h) (h a t e)
-
-unless_told : (x : Option Refused) (ds es : List Effect) → unless_refused x ds ≡ Ok es → (x ≡ None) × (ds ≡ es)
-unless_told (Some x) ds es h = cc
-unless_told None ds es h = (refl, cc)
 
 effect_holds : (k : Command) (st : Stage) → first_of (command_rows k st) ≡ None → IndexesHold st.rows → IndexesHold (rows_of_effects (command_effects k st) st.rows)
 unfolding rows_of_effects

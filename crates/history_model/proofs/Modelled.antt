@@ -136,7 +136,7 @@ same_after number l r h = by (on_line l r) (line_same l r h)
     by (Ok s) g = g.0
     by (Err x) g = refl
 
-made_rows : (ds : List Effect) (st : Stage) → rows_of_made (made_in ds st) st.rows ≡ (stage_after ds st).rows
+pub made_rows : (ds : List Effect) (st : Stage) → rows_of_made (made_in ds st) st.rows ≡ (stage_after ds st).rows
 made_rows [] st = refl
 made_rows (d ∷ ds) st = made_rows ds (stage_by d st)
 

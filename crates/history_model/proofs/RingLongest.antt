@@ -22,7 +22,7 @@ length_both : (xs ys : List Entry) → length (xs ++ ys) ≡ length xs + length 
 length_both [] ys = omega arith
 length_both (x ∷ xs) ys = (let h = length_both xs ys in omega arith)
 
-turned_join : (xs ys : Oplog) → turned (xs ++ ys) ≡ turned ys ++ turned xs
+pub turned_join : (xs ys : Oplog) → turned (xs ++ ys) ≡ turned ys ++ turned xs
 turned_join [] ys = sym (nil_right (turned ys))
 turned_join (x ∷ xs) ys = ap (λ (z : List Entry). z ++ (ring_entry x ∷ [])) (turned_join xs ys) ∙ append_assoc (turned ys) (turned xs) (ring_entry x ∷ [])
 

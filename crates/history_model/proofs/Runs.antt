@@ -48,7 +48,7 @@ taken_rises k st x e = by (effects k st) e
         subst (λ (z : Stage × List Made). RisesTo st.newest z.1 z.0.newest) (same_ok (stage_after ds (set_by k st), made_in ds (set_by k st)) x g)
         (subst (λ (z : Ts). RisesTo z (made_in ds (set_by k st)) (stage_after ds (set_by k st)).newest) (told_newest k st) (made_rises ds (set_by k st)))
 
-not_before : (low high e : Ts) → (low ≡ high) ⊎ (earlier low high ≡ true) → earlier low e ≡ false → earlier high e ≡ false
+pub not_before : (low high e : Ts) → (low ≡ high) ⊎ (earlier low high ≡ true) → earlier low e ≡ false → earlier high e ≡ false
 not_before low high e (inl g) h = subst (λ (z : Ts). earlier z e ≡ false) g h
 not_before low high e (inr g) h = false_from_ne_true (earlier high e) (λ k. (let f = earlier_trans low high e g k in cc))
 

@@ -21,7 +21,8 @@ use Rattle.history_model.proofs.Order.{earlier_turn, earlier_not, earlier_below}
 use Rattle.history_model.proofs.Inductive.{rises_on}
 use Rattle.history_model.proofs.WindowMoves.{each_append, filter_join}
 use Rattle.history_model.proofs.Steps.{Steps, after_all}
-use Rattle.history_model.proofs.Ended.{same_copy}
+use Rattle.history_model.proofs.Ended.{same_copy, no_dump as no_start, marked_not as not_some}
+use Rattle.history_model.proofs.Runs.{not_before as still_upto}
 
 take_none : (k : ℕ) → ◌≡◌ {A = List OplogEntry} (take k []) []
 take_none zero = refl
@@ -47,9 +48,6 @@ sent_nil : (xs : List OplogEntry) → xs ++ [] ≡ xs
 sent_nil [] = refl
 sent_nil (x ∷ xs) = ap (λ (z : List OplogEntry). x ∷ z) (sent_nil xs)
 
-no_start : {A : Type 0} (d : DumpState) → None ≡ Some d → A
-no_start d e = cc
-
 -- ---- before the mark nothing is sent
 
 pub record NothingSent (r : Run) : Type 0 where
@@ -72,11 +70,8 @@ pub record FrontSent (a e : Ts) (w : List OplogEntry) (r : Run) : Type 0 where
   pub steps : sent_in r.steps ≡ take copy.sent w
   pub all : copy.closed ≡ true → sent_in r.steps ≡ w
 
-not_marked : (ts : Ts) → None ≡ Some ts → ⊥
+pub not_marked : (ts : Ts) → None ≡ Some ts → ⊥
 not_marked ts e = cc
-
-not_some : (o : Option Ts) (ts : Ts) → o ≡ Some ts → is_some o ≡ false → ⊥
-not_some o ts e f = (let g : is_some o ≡ true = ap is_some e in cc)
 
 false_true : {A : Type 0} (b : Bool) → b ≡ false → b ≡ true → A
 false_true b e f = cc
@@ -93,10 +88,6 @@ window_same a e low high ms more h f =
     ap (λ (z : List OplogEntry). window a e (first_entry ∷ z)) (each_append ms more)
     ∙ (filter_join (λ (x : OplogEntry). not_later a x.ts && not_later x.ts e) (first_entry ∷ each entry_of ms) (each entry_of more)
     ∙ (ap (λ (z : List OplogEntry). window a e (first_entry ∷ each entry_of ms) ++ z) (later_not a e low high more h f) ∙ sent_nil (window a e (first_entry ∷ each entry_of ms))))
-
-still_upto : (low high e : Ts) → (low ≡ high) ⊎ (earlier low high ≡ true) → earlier low e ≡ false → earlier high e ≡ false
-still_upto low high e (inl g) f = subst (λ (z : Ts). earlier z e ≡ false) g f
-still_upto low high e (inr g) f = earlier_turn e high (earlier_below low e high f g)
 
 abbrev pub EitherSent : Run → Type 0
 EitherSent r = NothingSent r ⊎ ((e : Ts) × (a : Ts) × (w : List OplogEntry) × FrontSent a e w r)

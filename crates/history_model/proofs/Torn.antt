@@ -37,7 +37,7 @@ moves_of_join [] ys = refl
 moves_of_join (Wrote w ms ∷ xs) ys = ap (λ (z : List Move). ms ++ z) (moves_of_join xs ys) ∙ sym (append_assoc ms (moves_of xs) (moves_of ys))
 moves_of_join (Copied n k ∷ xs) ys = moves_of_join xs ys
 
-append_none : (xs : List Move) → xs ++ [] ≡ xs
+pub append_none : (xs : List Move) → xs ++ [] ≡ xs
 append_none [] = refl
 append_none (x ∷ xs) = ap (λ (z : List Move). x ∷ z) (append_none xs)
 

@@ -43,6 +43,7 @@ use Rattle.history_model.specs.Stages.{Stage}
 use Rattle.history_model.specs.Refusals.{is_there, row_in, row_at, accepted, update_of, first_of, document_refusal}
 use Rattle.history_model.specs.Commands.{RecordedWrite, put_change, unless_same, update_changes, replace_changes, insert_changes, under_id, document_changes, rows_of_changes, and_then, changes_together, group_of, or_too_large, is_too_large, grouped, one_each, unless_refused, index_effects, command_rows, command_effects, effects}
 use Rattle.history_model.specs.WellFormed.{HasWellFormed, IsWellFormedTable, AreWellFormed, IsWellFormedChange, AreWellFormedChanges, IsWellFormedCommand, AreWellFormedLines}
+use Rattle.coll_state.proofs.Sound.{some_table, no_table}
 
 -- ---- lines
 
@@ -58,12 +59,6 @@ lines_join (x ∷ xs) ys h g = (h.0, lines_join xs ys h.1 g)
 
 abbrev AllTables : Tables → Type 0
 AllTables ts = (n : NsName) (t : Table) → map.get ts n ≡ Some t → IsWellFormedTable t
-
-some_table : (a b : Table) → Some a ≡ Some b → a ≡ b
-some_table a b e = cc
-
-no_table : (t : Table) → None ≡ Some t → ⊥
-no_table t e = cc
 
 formed_insert : (ts : Tables) (k : NsName) (u : Table) → AllTables ts → IsWellFormedTable u → AllTables (map.insert ts k u)
 formed_insert ts k u h w n t e = by (same_ns n k) (sym (ns_at_insert ts k u n) ∙ e)
@@ -282,7 +277,7 @@ group_formed : (cs : List RecordedWrite) → AreWellFormedMade cs → AreWellFor
 group_formed [] h = tt
 group_formed (c ∷ cs) h = (singles_of (c ∷ cs) h, tt)
 
-small_enough : (b : Bool) (ds es : List Effect) → or_too_large b ds ≡ Ok es → ds ≡ es
+pub small_enough : (b : Bool) (ds es : List Effect) → or_too_large b ds ≡ Ok es → ds ≡ es
 small_enough true ds es h = cc
 small_enough false ds es h = cc
 

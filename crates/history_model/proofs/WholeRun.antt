@@ -53,7 +53,7 @@ finished_lines r =
     let c = repeated_lines (Tail last_step) (suc (length u.made)) u tt in
     (a.0 ++ (b.0 ++ c.0), c.1 ∙ (ap (after_lines c.0) (b.1 ∙ ap (after_lines b.0) a.1) ∙ (sym (lines_append b.0 c.0 (after_lines a.0 s)) ∙ sym (lines_append a.0 (b.0 ++ c.0) s))), lines_join a.0 (b.0 ++ c.0) a.2 (lines_join b.0 c.0 b.2 c.2)))
 
-is_begun : (ts : Ts) (o : Option DumpState) (r : Run) → StartIs ts o → begun o r ≡ r
+pub is_begun : (ts : Ts) (o : Option DumpState) (r : Run) → StartIs ts o → begun o r ≡ r
 is_begun ts None r h = absurd h
 is_begun ts (Some d) r h = refl
 

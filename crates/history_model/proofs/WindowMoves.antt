@@ -22,6 +22,7 @@ use Rattle.history_model.proofs.Order.{earlier_turn, earlier_not}
 use Rattle.history_model.proofs.Inductive.{each_both, rises_on, none_above, all_above}
 use Rattle.history_model.proofs.Modelled.{SameBase, line_same}
 use Rattle.history_model.proofs.AtTheMark.{lines_made, lines_rise, torn_at_mark, last_made}
+use Rattle.history_model.proofs.Torn.{moves_join as made_join}
 
 -- a list whose entries all pass, or of which none does
 abbrev pub AllTell : (OplogEntry → Bool) → Bool → List Made → Type 0
@@ -54,10 +55,6 @@ moves_same (m ∷ ms) = ap (λ (z : List Move). content_moves m.content ++ z) (m
 kept_join : (xs ys : List OplogEntry) → moves_recorded (xs ++ ys) ≡ moves_recorded xs ++ moves_recorded ys
 kept_join [] ys = refl
 kept_join (x ∷ xs) ys = ap (λ (z : List Move). content_moves x.content ++ z) (kept_join xs ys) ∙ sym (append_assoc (content_moves x.content) (moves_recorded xs) (moves_recorded ys))
-
-made_join : (xs ys : List Made) → moves_made (xs ++ ys) ≡ moves_made xs ++ moves_made ys
-made_join [] ys = refl
-made_join (m ∷ xs) ys = ap (λ (z : List Move). content_moves m.content ++ z) (made_join xs ys) ∙ sym (append_assoc (content_moves m.content) (moves_made xs) (moves_made ys))
 
 abbrev pub inside : Ts → Ts → OplogEntry → Bool
 inside a b e = not_later a e.ts && not_later e.ts b

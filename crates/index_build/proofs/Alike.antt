@@ -188,7 +188,7 @@ docs_alike (x ∷ es) (f ∷ fs) e =
 same_shown : (c k : Collection) → shown_collection c ≡ shown_collection k → (map.entries c.indexes ≡ map.entries k.indexes) × AllAlike (documents c) (documents k)
 same_shown c k e = (ap (λ (s : ShownCollection). s.indexes) e, docs_alike (map.entries c.documents) (map.entries k.documents) (ap (λ (s : ShownCollection). s.documents) e))
 
-some_shown : (c k : ShownCollection) → Some c ≡ Some k → c ≡ k
+pub some_shown : (c k : ShownCollection) → Some c ≡ Some k → c ≡ k
 some_shown c k e = cc
 
 numbers_shown : (o u : Option Collection) → option_map shown_collection o ≡ option_map shown_collection u → numbers_in o ≡ numbers_in u
@@ -209,11 +209,11 @@ fault_shown n (Some c) (Some k) e =
 
 -- ---- states
 
-names_shown : (es : List (NsName × Collection)) → each (λ (e : NsName × ShownCollection). e.0) (each (λ (e : NsName × Collection). (e.0, shown_collection e.1)) es) ≡ each (λ (e : NsName × Collection). e.0) es
+pub names_shown : (es : List (NsName × Collection)) → each (λ (e : NsName × ShownCollection). e.0) (each (λ (e : NsName × Collection). (e.0, shown_collection e.1)) es) ≡ each (λ (e : NsName × Collection). e.0) es
 names_shown [] = refl
 names_shown (e ∷ es) = ap (λ (ns : List NsName). e.0 ∷ ns) (names_shown es)
 
-same_names : (a b : State) → shown a ≡ shown b → map.keys a ≡ map.keys b
+pub same_names : (a b : State) → shown a ≡ shown b → map.keys a ≡ map.keys b
 same_names a b e = sym (names_shown (map.entries a)) ∙ (ap (each (λ (e : NsName × ShownCollection). e.0)) e ∙ names_shown (map.entries b))
 
 at_name : (a b : State) → shown a ≡ shown b → (n : NsName) → option_map shown_collection (map.get a n) ≡ option_map shown_collection (map.get b n)

@@ -21,7 +21,7 @@ use Rattle.index_build.specs.Sorted.{NumbersVec, numbers_told, index_name, space
 
 -- ---- names that rise
 
-less_of : (o : Ordering) → T (is_lt o) → o ≡ Less
+pub less_of : (o : Ordering) → T (is_lt o) → o ≡ Less
 less_of Less t = refl
 less_of Equal t = absurd t
 less_of Greater t = absurd t

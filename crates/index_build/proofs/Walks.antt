@@ -28,7 +28,7 @@ use Rattle.index_build.specs.Numbers.{numbers_of, numbers_in}
 
 -- ---- documents
 
-fields_object : (d : Fields) → fields (Object d) ≡ d
+pub fields_object : (d : Fields) → fields (Object d) ≡ d
 fields_object d = ap fields_at (outs-Object d)
 
 fields_held : (hs : List Held) → each fields (held_values hs) ≡ held hs

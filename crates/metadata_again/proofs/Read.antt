@@ -8,10 +8,10 @@ use Rattle.std.specs.declared.cmp.Ordering.{Ordering}
 use Rattle.std.specs.declared.cmp.Ordering.TheVariants.{Less, Equal, Greater}
 use Rattle.std.specs.FinMap as map
 use Rattle.std.specs.FinMap.Entries.{below_all, is_sorted}
-use Rattle.std.specs.Str.{bytes_eq, is_utf8}
+use Rattle.std.specs.Str.{is_utf8}
 use Rattle.containers.specs.Entries.{lookup}
 use Rattle.bson_value.specs.declared.namespace.NsName.{NsName}
-use Rattle.bson_value.specs.declared.value.Value.{Value, Value-F, Object, Str, fold-roll-Value}
+use Rattle.bson_value.specs.declared.value.Value.{Value, Object, Str}
 use Rattle.bson_value.specs.declared.value.Value.TheVariants as values
 use Rattle.bson_value.specs.NamespaceOrder.{namespace_cmp}
 use Rattle.bson_value.specs.Levels as sizes
@@ -23,7 +23,7 @@ use Rattle.json_tree.specs.declared.tree.Tree.TheVariants as trees
 use Rattle.json_tree.specs.WellFormed.{IsWellFormed, AreWellFormedItems}
 use Rattle.json_tree.specs.Levels.{levels_of, items_levels}
 use Rattle.json_text.specs.Print.{text_of}
-use Rattle.extjson.specs.Trees.{tree_step, tree_of, fields_of}
+use Rattle.extjson.specs.Trees.{tree_of, fields_of}
 use Rattle.extjson.specs.Plain.{wrapped_numbers}
 use Rattle.extjson.proofs.Unwrapped.{trees_wrapped}
 use Rattle.extjson.proofs.Shallow.{trees_shallow}
@@ -46,22 +46,9 @@ use Rattle.dump_content.proofs.Metas.{AllOf, table_of}
 use Rattle.dump_content.proofs.Sorted.{AllEntries, each_entry}
 use Rattle.archive_base.specs.Laws.{AreReadAgain}
 use Rattle.metadata_again.specs.Laws.{KeptIsReadAgain, StartIsReadAgain}
+use Rattle.recorded_entries.proofs.Definitions.{tree_object, tree_str, lookup_trees}
 
 -- ---- the tree of a document
-
-tree_object : (fs : Fields) → tree_of (Object fs) ≡ trees.Object (fields_of fs)
-tree_object fs = ap tree_of (sym (values.rolls-Object fs)) ∙ fold-roll-Value Tree tree_step (Value-F.Object fs)
-
-tree_str : (t : List ℕ) → tree_of (Str t) ≡ trees.Str t
-tree_str t = ap tree_of (sym (values.rolls-Str t)) ∙ fold-roll-Value Tree tree_step (Value-F.Str t)
-
-lookup_trees : (k : List ℕ) (fs : Fields) → lookup k (fields_of fs) ≡ option_map tree_of (lookup k fs)
-lookup_trees k [] = refl
-lookup_trees k (f ∷ fs) = by (bytes_eq f.0 k) (lookup_trees k fs)
-  where
-    by : (b : Bool) → lookup k (fields_of fs) ≡ option_map tree_of (lookup k fs) → (if b then Some (tree_of f.1) else lookup k (fields_of fs)) ≡ option_map tree_of (if b then Some f.1 else lookup k fs)
-    by true h = refl
-    by false h = h
 
 well_tree : (fs : Fields) → IsWellFormedDocument fs → IsWellFormed (options_of fs)
 unfolding options_of

@@ -1,6 +1,6 @@
 -- What a command makes where no row refuses it is good, and keeps the rows.
 use Rattle.std.proofs.Common.{◌≡◌, ℕ, List, [], ◌∷◌, ◌++◌, length, Bool, true, false, not, refl, sym, ap, ◌∙◌, subst, arith, Option, Some, None, Result, Ok, Err}
-use Rattle.std.specs.Prelude.{⊤, ◌≤◌, ◌<◌, ◌&&◌, ◌||◌, codes, nat_lt, nat_le, is_some, map as each}
+use Rattle.std.specs.Prelude.{⊤, ◌<◌, ◌&&◌, ◌||◌, codes, nat_le, is_some, map as each}
 use Rattle.std.specs.List.{list_any}
 use Rattle.std.specs.FinMap as map
 use Rattle.std.proofs.lemmas.Bool.{and_parts, or_parts}
@@ -41,15 +41,15 @@ use Rattle.history_model.specs.Entries as entries
 use Rattle.history_model.specs.Stages.{Stage, Effect, Single, rows_by}
 use Rattle.history_model.specs.Refusals.{is_there, row_in, row_at, accepted, update_of, definitions_in, in_database, first_of, document_rows, document_refusal, name_there, index_rows}
 use Rattle.history_model.specs.Commands.{RecordedWrite, put_change, unless_same, update_changes, replace_changes, insert_changes, under_id, document_changes, rows_of_changes, and_then, changes_together, entry_limit, group_of, is_too_large, or_too_large, grouped, one_each, unless_refused, index_effects, has_definition, command_rows, command_effects, effects}
-use Rattle.history_model.proofs.Accepted.{all_false, same_ok}
+use Rattle.history_model.proofs.Accepted.{all_false, same_ok, refused_none}
 use Rattle.history_model.proofs.WellFormed.{accepted_ok}
 use Rattle.recorded_entries.specs.Given.{IsGivenChange, AreGivenChanges, IsGivenCommand}
 use Rattle.recorded_entries.specs.Good.{IsGoodName, IsGoodDatabase, IsGoodId, IsGoodDocument, IsGoodOptions, IsGoodDefinition, IsGoodIndex, IsGoodItem, AreGoodItems, IsGood}
 use Rattle.recorded_entries.specs.Kept.{IsKeptTable, AreKept}
 use Rattle.recorded_entries.proofs.Finding.{any_found}
 use Rattle.recorded_entries.proofs.Documents.{good_first}
-use Rattle.recorded_entries.proofs.Deltas.{recorded_good}
-use Rattle.recorded_entries.proofs.Definitions.{good_definition}
+use Rattle.recorded_entries.proofs.Deltas.{recorded_good, not_above}
+use Rattle.recorded_entries.proofs.Definitions.{good_definition, is_false, is_none, at_most}
 use Rattle.recorded_entries.proofs.KeptRows.{HasRoom, IsKeptSingle, AreKeptSingles, IsKeptWrite, no_options_good, single_kept, row_kept}
 
 -- ---- changes, each good and keeping the rows
@@ -201,9 +201,6 @@ items_good : (cs : List RecordedWrite) (r : Rows) → AreGoodChanges cs r → Ar
 items_good [] r h = tt
 items_good (c ∷ cs) r h = (h.1, items_good cs (change_rows c.0 r) h.2)
 
-not_above : (a n : ℕ) → nat_lt a n ≡ false → n ≤ a
-not_above a n e = grind (arith, common_steps)
-
 group_good : (cs : List RecordedWrite) (r : Rows) → AreGoodChanges cs r → is_too_large (group_of cs) ≡ false → AreGoodEffects (group_of cs) r
 group_good [] r h e = tt
 group_good (c ∷ cs) r h e =
@@ -224,17 +221,6 @@ grouped_good (Ok cs) r ds h e =
 there_name : (n : NsName) (r : Rows) (o : Option Table) → map.get r.tables n ≡ o → AreKept r → not (is_some o) ≡ false → (t : Table) × (o ≡ Some t) × IsGoodName n × IsKeptTable t
 there_name n r None e h q = cc
 there_name n r (Some t) e h q = (t, refl, (h n t e).0, (h n t e).1)
-
-at_most : (a b : ℕ) → nat_le a b ≡ true → a ≤ b
-at_most a b e = grind (arith, common_steps)
-
-is_false : (b : Bool) → not b ≡ true → b ≡ false
-is_false true e = cc
-is_false false e = refl
-
-is_none : {A : Type 0} (o : Option A) → is_some o ≡ false → o ≡ None
-is_none None e = refl
-is_none (Some x) e = cc
 
 good_options : (o : Fields) → IsWellFormedDocument o → are_good_options o ≡ true → IsGoodOptions o
 unfolding are_good_options
@@ -282,10 +268,6 @@ room_for n r e t f =
     let l : nat_le 63 (length (map.entries t.indexes)) ≡ false = subst (λ (o : Option Table). nat_le 63 (length (definitions_in o)) ≡ false) f e in
     let m : length (map.entries t.indexes) < 63 = grind (arith, common_steps) in
     omega (arith, m, map.len-entries t.indexes)
-
-refused_none : (x : Option Refused) (ds es : List Effect) → unless_refused x ds ≡ Ok es → (x ≡ None) × (ds ≡ es)
-refused_none (Some x) ds es h = cc
-refused_none None ds es h = (refl, cc)
 
 dropped_index : (n : NsName) (k : Key) (r : Rows) (o : Option Table) → map.get r.tables n ≡ o → AreKept r → not (is_some o) ≡ false → not (has_definition k (definitions_in o)) ≡ false → AreGoodEffects ((Single (writes.DropIndex n k), One (entries.DropIndex n k)) ∷ []) r
 dropped_index n k r None e h q p = cc

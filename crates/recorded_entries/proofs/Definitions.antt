@@ -53,7 +53,7 @@ normal_fields k nm d = (codes "v", version_value (lookup (codes "v") d)) ∷ (co
 pub tree_object : (fs : Fields) → tree_of (Object fs) ≡ trees.Object (fields_of fs)
 tree_object fs = ap tree_of (sym (values.rolls-Object fs)) ∙ fold-roll-Value Tree tree_step (Value-F.Object fs)
 
-tree_str : (t : List ℕ) → tree_of (Str t) ≡ trees.Str t
+pub tree_str : (t : List ℕ) → tree_of (Str t) ≡ trees.Str t
 tree_str t = ap tree_of (sym (values.rolls-Str t)) ∙ fold-roll-Value Tree tree_step (Value-F.Str t)
 
 two_is : decimal 2 ≡ codes "2"
@@ -65,7 +65,7 @@ tree_two =
     ap (λ (t : List ℕ). wrapped (codes "$numberInt") (trees.Str t)) (sym two_is)
     ∙ sym (ap tree_of (sym (values.rolls-Int (pos 2))) ∙ fold-roll-Value Tree tree_step (Value-F.Int (pos 2)))
 
-lookup_trees : (k : List ℕ) (fs : Fields) → lookup k (fields_of fs) ≡ option_map tree_of (lookup k fs)
+pub lookup_trees : (k : List ℕ) (fs : Fields) → lookup k (fields_of fs) ≡ option_map tree_of (lookup k fs)
 lookup_trees k [] = refl
 lookup_trees k (f ∷ fs) = by (bytes_eq f.0 k) (lookup_trees k fs)
   where
@@ -309,14 +309,14 @@ form_once : (d : Fields) (t : Tree) → normal_of d ≡ Some t → normal t ≡ 
 unfolding normal_of
 form_once d t e = normal_once (tree_of (Object d)) t e
 
-at_most : (a b : ℕ) → nat_le a b ≡ true → a ≤ b
+pub at_most : (a b : ℕ) → nat_le a b ≡ true → a ≤ b
 at_most a b e = grind (arith, common_steps)
 
-is_false : (b : Bool) → not b ≡ true → b ≡ false
+pub is_false : (b : Bool) → not b ≡ true → b ≡ false
 is_false true e = cc
 is_false false e = refl
 
-is_none : {A : Type 0} (o : Option A) → is_some o ≡ false → o ≡ None
+pub is_none : {A : Type 0} (o : Option A) → is_some o ≡ false → o ≡ None
 is_none None e = refl
 is_none (Some x) e = cc
 

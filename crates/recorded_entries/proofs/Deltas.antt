@@ -33,7 +33,7 @@ use Rattle.written_levels.proofs.Shallow.{written_is_shallow}
 use Rattle.coll_state.specs.Rows.{Document as Fields}
 use Rattle.recorded_entries.specs.Good.{IsGoodDelta}
 
-not_above : (a n : ℕ) → nat_lt a n ≡ false → n ≤ a
+pub not_above : (a n : ℕ) → nat_lt a n ≡ false → n ≤ a
 not_above a n e = grind (arith, common_steps)
 
 pub recorded_good : (form : Form) (ops doc : Fields) (u : Updated) (r : Form × List Touch) → IsWellFormedDocument ops → IsWellFormedDocument doc → ops_fault ops ≡ None → updated (operators ops) doc ≡ Ok u → recorded form u.doc u.touches ≡ Some r → IsGoodDelta r.0 r.1

@@ -4,7 +4,6 @@ use Rattle.std.specs.Prelude.{codes, nat_le, ◌==◌, ◌&&◌, if◌then◌els
 use Rattle.std.specs.Str.{bytes_eq}
 use Rattle.std.specs.List.{list_any}
 use Rattle.std.proofs.lemmas.Bool.{and_parts}
-use Rattle.std.proofs.lemmas.Grind.{common_steps}
 use Rattle.std.proofs.lemmas.Slice.Eq.{bytes_eq-Decides}
 use Rattle.containers.specs.Entries.{lookup, without}
 use Rattle.bson_value.specs.declared.value.Value.{Value}
@@ -20,6 +19,7 @@ use Rattle.written_levels.proofs.Standing.{field_levels, field_level}
 use Rattle.history_model.specs.Documents.{id_before, id_first, is_good_id, is_good_document}
 use Rattle.history_model.proofs.WellFormed.{id_first_formed}
 use Rattle.recorded_entries.specs.Good.{IsGoodId, IsGoodDocument}
+use Rattle.recorded_entries.proofs.Definitions.{at_most}
 
 without_size : (k : List ℕ) (fs : Fields) → length (elements_of (without k fs)) ≤ length (elements_of fs)
 without_size k [] = omega arith
@@ -50,9 +50,6 @@ first_size k (f ∷ fs) v e = by (bytes_eq f.0 k) refl e (λ g. first_size k fs 
         let s : length (spelled f.1) ≡ length (spelled v) = ap (λ (x : Value). length (spelled x)) w in
         omega (arith, l, s, elements_size k v (without k fs), elements_size f.0 f.1 fs, without_size k fs)
     by false q g ih = omega (arith, ih g, elements_size k v (f ∷ without k fs), elements_size k v (without k fs), elements_size f.0 f.1 (without k fs), elements_size f.0 f.1 fs)
-
-at_most : (a b : ℕ) → nat_le a b ≡ true → a ≤ b
-at_most a b e = grind (arith, common_steps)
 
 -- ---- of an `_id` and a document that are accepted
 

@@ -23,23 +23,13 @@ use Rattle.history_model.specs.Stages.{Write, Single, Rename, Txn, rows_all, row
 use Rattle.recorded_entries.specs.Good.{IsGoodName, IsGoodDocument, IsGoodOptions, IsGoodDefinition}
 use Rattle.recorded_entries.specs.Kept.{IsKeptRow, AreKeptRows, IsKeptOptions, IsKeptTable, AreKept}
 use Rattle.recorded_entries.proofs.Definitions.{tree_object}
+use Rattle.coll_state.proofs.Sound.{some_table}
+use Rattle.history_model.proofs.IndexesHeld.{no_tree, no_table, same_tree}
 
 -- ---- tables
 
 abbrev pub AllKept : Tables → Type 0
 AllKept ts = (n : NsName) (t : Table) → map.get ts n ≡ Some t → IsGoodName n × IsKeptTable t
-
-some_table : (a b : Table) → Some a ≡ Some b → a ≡ b
-some_table a b e = cc
-
-no_table : {A : Type 0} (t : Table) → None ≡ Some t → A
-no_table t e = cc
-
-no_tree : {A : Type 0} (d : Tree) → None ≡ Some d → A
-no_tree d e = cc
-
-same_tree : (a b : Tree) → Some a ≡ Some b → a ≡ b
-same_tree a b e = cc
 
 keep_insert : (ts : Tables) (k : NsName) (u : Table) → AllKept ts → IsGoodName k → IsKeptTable u → AllKept (map.insert ts k u)
 keep_insert ts k u h g w n t e = by (same_ns n k) refl (sym (ns_at_insert ts k u n) ∙ e)

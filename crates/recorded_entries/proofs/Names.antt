@@ -10,22 +10,16 @@ use Rattle.entry_model.specs.Writable.{IsCollection, IsDatabase}
 use Rattle.history_model.specs.Documents.{is_between, is_word, is_dot, is_reserved, is_database_name, is_collection_name, is_bad_name, begins, ends_with_dot}
 use Rattle.history_model.specs.Entries.{database}
 use Rattle.recorded_entries.specs.Good.{IsGoodName, IsGoodDatabase}
+use Rattle.recorded_entries.proofs.Definitions.{is_false as not_true, at_most as above}
 
 both_true : (a b : Bool) → not (a && b) ≡ false → (a ≡ true) × (b ≡ true)
 both_true true true e = (refl, refl)
 both_true true false e = cc
 both_true false b e = cc
 
-not_true : (a : Bool) → not a ≡ true → a ≡ false
-not_true true e = cc
-not_true false e = refl
-
 parts_of : (n : NsName) → IsGoodName n → (is_database_name n.db ≡ true) × (is_collection_name n.coll ≡ true)
 unfolding is_bad_name
 parts_of n e = both_true (is_database_name n.db) (is_collection_name n.coll) e
-
-above : (low n : ℕ) → nat_le low n ≡ true → low ≤ n
-above low n e = grind (arith, common_steps)
 
 between : (low high c : ℕ) → is_between low high c ≡ true → (low ≤ c) × (c ≤ high)
 between low high c e = let p = and_parts (nat_le low c) (nat_le c high) e in (above low c p.0, above c high p.1)

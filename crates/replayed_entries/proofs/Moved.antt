@@ -34,10 +34,7 @@ use Rattle.recorded_entries.specs.Good.{IsGoodDocument, IsGoodDefinition, IsGood
 use Rattle.replayed_entries.specs.Laws.{GoodMovesAre}
 use Rattle.recorded_entries.proofs.Names.{good_config, db_of}
 use Rattle.recorded_entries.proofs.Written.{definition_fields}
-
-append_nil : (ms : List Move) → ms ++ [] ≡ ms
-append_nil [] = refl
-append_nil (m ∷ ms) = ap (λ (z : List Move). m ∷ z) (append_nil ms)
+use Rattle.history_model.proofs.Torn.{append_none as append_nil}
 
 -- outside of `config`, by what the action says
 steps_at : (e : Entry) (a : Level) → is_config e.ns ≡ false → out-Action e.action ≡ a → moves_of e ≡ joined (steps_below e.ns a)

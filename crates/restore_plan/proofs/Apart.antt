@@ -3,7 +3,6 @@ use Rattle.std.proofs.Common.{◌≡◌, Bool, true, false, cond, List, [], ◌�
 use Rattle.std.specs.Prelude.{◌⊎◌, fold, filter}
 use Rattle.std.specs.FinMap as map
 use Rattle.std.proofs.lemmas.Bool.{cases_Bool}
-use Rattle.std.proofs.lemmas.Slice.Eq.{bytes_eq-Decides}
 use Rattle.bson_value.specs.declared.namespace.NsName.{NsName}
 use Rattle.state_model.specs.Keys.{same_ns as same_name}
 use Rattle.state_model.specs.States.{State, Collection, no_options, fresh_collection, or_fresh}
@@ -21,6 +20,7 @@ use Rattle.archive_format.specs.Archive.{Taking, meta, doc, end, same_ns}
 use Rattle.restore_plan.specs.declared.plan.Plan.{Plan}
 use Rattle.restore_plan.specs.Base.{ns_of, is_of_base, options_taken, definitions_taken, described, made, named_step, base_step}
 use Rattle.restore_plan.specs.Order.{Lacks}
+use Rattle.restore_plan.proofs.Order.{ns_refl as same_itself}
 
 -- ---- takings
 
@@ -42,9 +42,6 @@ acts_taking : (n : NsName) (t : Taking) → ActsAt n (λ s. named_step n s t)
 acts_taking n (meta k x) = acts_insert n (λ o. described (options_taken x) (definitions_taken x) (or_fresh o))
 acts_taking n (doc k b) = acts_put n _ _
 acts_taking n (end k) = acts_made n
-
-same_itself : (n : NsName) → same_ns n n ≡ true
-same_itself n = rw ((bytes_eq-Decides n.db n.db).1 refl, (bytes_eq-Decides n.coll n.coll).1 refl) refl
 
 other_name : (n m : NsName) → same_ns n m ≡ false → same_name n m ≡ false
 other_name n m e = by (cases_Bool (same_name n m))

@@ -79,7 +79,7 @@ module _ {A : Type 0} (t : A → Bool) where
 
 -- ---- namespaces that were ended, and the entry that is written to
 
-ns_refl : (n : NsName) → same_ns n n ≡ true
+pub ns_refl : (n : NsName) → same_ns n n ≡ true
 ns_refl n = rw (name_refl n.db, name_refl n.coll) refl
 
 abbrev of_ns : NsName → Seen → Bool

@@ -1,7 +1,6 @@
 -- A restore of a dump's archive makes a state.
 use Rattle.std.proofs.Common.{◌≡◌, false, refl, sym, ap, ◌∙◌, subst, Option, Some, None}
 use Rattle.std.specs.Prelude.{option_map, is_some}
-use Rattle.bson_value.specs.declared.value.Ts.{Ts}
 use Rattle.state_model.specs.Cut.{cut}
 use Rattle.index_build.specs.declared.fault.CountFault.{CountFault}
 use Rattle.index_build.specs.Faults.{fault}
@@ -17,9 +16,7 @@ use Rattle.archive_heals.specs.Laws.{Replays, ArchiveHeals, ArchiveIsTaken}
 use Rattle.archive_known.specs.Laws.{ArchiveHasContent, EntriesAreKnown}
 use Rattle.held_moments.specs.Laws.{MomentsAreFaultless, TakenAreFaultless}
 use Rattle.restored_dump.specs.Laws.{ArchiveRestores}
-
-same_ts : (t u : Ts) → Some t ≡ Some u → t ≡ u
-same_ts t u e = cc
+use Rattle.history_model.proofs.Answered.{same_some as same_ts}
 
 none_is : (o : Option CountFault) → is_some o ≡ false → o ≡ None
 none_is None e = refl

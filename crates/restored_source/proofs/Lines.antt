@@ -20,6 +20,7 @@ use Rattle.index_build.specs.Numbers.{number, numbers, numbers_of, numbers_in, c
 use Rattle.document_lines.specs.declared.form.ListForm.{ListForm}
 use Rattle.document_lines.specs.Lines.{line, shown, in_order, document_line}
 use Rattle.state_listing.specs.Listing.{head_text, index_line, indexes_text, collection_text, listing}
+use Rattle.index_build.proofs.Alike.{some_shown, same_names}
 
 -- ---- documents
 
@@ -85,9 +86,6 @@ same_collections form n c k e h =
     same_indexes (map.entries c.indexes) (documents c) (documents k) (h ∙ ap (λ es. numbers_of es (documents k)) (sym entries)) ∙ ap (λ es. indexes_text (documents k) (definitions es)) entries in
     λ i. head_text n.db n.coll (docs.0 i) (options i) ++ indexes i ++ docs.1 i
 
-some_shown : (c k : ShownCollection) → Some c ≡ Some k → c ≡ k
-some_shown c k e = cc
-
 same_texts : (form : ListForm) (n : NsName) (o u : Option Collection) → option_map shown_collection o ≡ option_map shown_collection u → numbers_in o ≡ numbers_in u → collection_text form n o ≡ collection_text form n u
 same_texts form n None None e h = refl
 same_texts form n None (Some k) e h = cc
@@ -98,13 +96,6 @@ same_texts form n (Some c) (Some k) e h = same_collections form n c k (some_show
 
 abbrev counted : State → NsName → NsName × List (Key × Option ℕ)
 counted s n = (n, numbers_in (map.get s n))
-
-names_shown : (es : List (NsName × Collection)) → each (λ (e : NsName × ShownCollection). e.0) (each (λ (e : NsName × Collection). (e.0, shown_collection e.1)) es) ≡ each (λ (e : NsName × Collection). e.0) es
-names_shown [] = refl
-names_shown (e ∷ es) = ap (λ (ns : List NsName). e.0 ∷ ns) (names_shown es)
-
-same_names : (a b : State) → shown_state a ≡ shown_state b → map.keys a ≡ map.keys b
-same_names a b e = sym (names_shown (map.entries a)) ∙ (ap (each (λ (e : NsName × ShownCollection). e.0)) e ∙ names_shown (map.entries b))
 
 texts_among : (form : ListForm) (a b : State) → shown_state a ≡ shown_state b → (ns : List NsName) → each (counted a) ns ≡ each (counted b) ns →
     flat_map (λ n. collection_text form n (map.get a n)) ns ≡ flat_map (λ n. collection_text form n (map.get b n)) ns

@@ -1,7 +1,6 @@
 -- What is listed of a restored archive is the listing of the source.
-use Rattle.std.proofs.Common.{◌≡◌, sym, ap, ◌∙◌, subst, Some}
+use Rattle.std.proofs.Common.{◌≡◌, sym, ap, ◌∙◌, subst}
 use Rattle.std.specs.Prelude.{if◌then◌else◌, None}
-use Rattle.bson_value.specs.declared.value.Ts.{Ts}
 use Rattle.state_model.specs.Spots.{Spot, stands}
 use Rattle.state_model.specs.Cut.{cut, space_of}
 use Rattle.state_model.specs.Laws.{CutStands, SameIsShownAlike}
@@ -16,12 +15,10 @@ use Rattle.archive_heals.specs.Laws.{Replays, ArchiveHeals}
 use Rattle.whole_transactions.specs.Laws.{AtIsWhole}
 use Rattle.restored_source.specs.Laws.{SameAreListedAlike, ListsSource, ListsWholeSource, ListsWholeTransactions}
 use Rattle.restored_source.proofs.Lines.{listed_alike}
+use Rattle.history_model.proofs.Answered.{same_some as some_ts}
 
 pub same_listed : SameCounts → SameIsShownAlike → SameAreListedAlike
 same_listed counted alike form a b h = listed_alike form a b ((alike a b).0 h) (counted a b h)
-
-some_ts : (t u : Ts) → Some t ≡ Some u → t ≡ u
-some_ts t u e = cc
 
 pub source_listed : ArchiveHeals → DoneIsHealedBefore → SameAreListedAlike → ListsSource
 source_listed heals healed alike s p r made o form =

@@ -30,6 +30,7 @@ use Rattle.schedule_dump.specs.Outcomes.{TellsFirst, WritesAll, Fails, Dumps}
 use Rattle.schedule_dump.proofs.Refused.{finished_leaves}
 use Rattle.schedule_dump.proofs.Reaching.{told_first, first_front}
 use Rattle.schedule_dump.proofs.Going.{written_front, written_all}
+use Rattle.history_model.proofs.Answered.{same_some as some_is}
 
 -- ---- before the start
 
@@ -66,9 +67,6 @@ entries_sent : (ss : List Step) → entries_in ss ≡ length (sent_in ss)
 entries_sent [] = refl
 entries_sent (Documents n rs b ∷ ss) = entries_sent ss
 entries_sent (Entries es b ∷ ss) = ap (λ (i : ℕ). length es + i) (entries_sent ss) ∙ sym (length-append es (sent_in ss))
-
-some_is : (a b : Ts) → Some a ≡ Some b → a ≡ b
-some_is a b e = cc
 
 module _ (s : Schedule) (store : Stored) (dump : Dumping) (first : Ends) (o q : End) (g : DuringDump s store dump [] first (ends o q)) where
   whole : run s ≡ finished g.at

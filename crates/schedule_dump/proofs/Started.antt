@@ -7,18 +7,14 @@ use Rattle.coll_state.specs.Rows.{state_of}
 use Rattle.history_model.specs.Stages.{Caps, Write, Made, first_ts, earlier, not_later}
 use Rattle.history_model.specs.Invariants.{RunOk}
 use Rattle.history_model.specs.Recordings.{made_by}
-use Rattle.history_model.specs.Runs.{Schedule, Run, DumpState, started, after_lines, begun, finished, run}
+use Rattle.history_model.specs.Runs.{Schedule, Run, DumpState, started, after_lines, finished, run}
 use Rattle.history_model.specs.Histories.{history_of, history, state, moments_of, moments}
 use Rattle.history_model.proofs.Inductive.{each_map, none_above, all_above}
 use Rattle.history_model.proofs.AtTheMark.{StartIs, lines_start, lines_made, lines_rise}
-use Rattle.history_model.proofs.WholeRun.{lines_append, finished_lines}
+use Rattle.history_model.proofs.WholeRun.{lines_append, finished_lines, is_begun as begun_is}
 use Rattle.history_model.proofs.Limited.{history_front}
 use Rattle.dump_model.specs.Archives.{state_at}
 use Rattle.schedule_dump.specs.Progress.{start_state}
-
-begun_is : (ts : Ts) (o : Option DumpState) (r : Run) → StartIs ts o → begun o r ≡ r
-begun_is ts None r h = absurd h
-begun_is ts (Some d) r h = refl
 
 start_is : (ts : Ts) (o : Option DumpState) → StartIs ts o → (moments_of o).start ≡ Some ts
 start_is ts None h = absurd h

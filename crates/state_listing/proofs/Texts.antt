@@ -6,8 +6,7 @@ use Rattle.std.specs.List.{flat_map}
 use Rattle.std.specs.FinMap as map
 use Rattle.std.specs.FinMap.Entries.{below_all}
 use Rattle.std.specs.Ordering.{is_eq, is_lt}
-use Rattle.std.specs.declared.cmp.Ordering.{Ordering}
-use Rattle.std.specs.declared.cmp.Ordering.TheVariants.{Less, Equal, Greater}
+use Rattle.std.specs.declared.cmp.Ordering.TheVariants.{Less}
 use Rattle.bson_value.specs.declared.namespace.NsName.{NsName}
 use Rattle.json_tree.specs.declared.tree.Tree.{Tree}
 use Rattle.state_model.specs.Keys.{Key, key_cmp, same_key}
@@ -18,24 +17,20 @@ use Rattle.coll_state.specs.Definitions.{definition_name}
 use Rattle.coll_state.specs.Documents.{documents_by_key}
 use Rattle.coll_state.proofs.Links.{get_collection}
 use Rattle.bson_value.specs.declared.value.Value.{Value, Object}
-use Rattle.bson_value.specs.declared.value.Value.TheVariants.{outs-Object}
 use Rattle.bson_view.specs.declared.held.Held.{Held}
 use Rattle.bson_view.specs.Held.{held_document}
 use Rattle.index_keys.specs.Keys.{Fields}
-use Rattle.index_build.specs.Documents.{documents, fields, fields_at}
+use Rattle.index_build.specs.Documents.{documents}
 use Rattle.index_build.specs.Numbers.{Numbers, number, number_at, counts}
 use Rattle.index_build.proofs.Told.{numbers_are_told}
 use Rattle.document_lines.specs.declared.form.ListForm.{ListForm}
 use Rattle.document_lines.specs.Lines.{document_line}
 use Rattle.state_listing.specs.Listing.{head_text, index_line, indexes_text, collection_text}
 use Rattle.state_listing.specs.Listed.{index_lines, document_lines}
+use Rattle.index_build.proofs.Names.{less_of}
+use Rattle.index_build.proofs.Walks.{fields_object}
 
 -- ---- what stands among the entries of a map is found there
-
-less_of : (o : Ordering) → T (is_lt o) → o ≡ Less
-less_of Less t = refl
-less_of Equal t = absurd t
-less_of Greater t = absurd t
 
 first_of : (a b : Bool) → T (a && b) → T a
 first_of true b t = tt
@@ -122,9 +117,6 @@ collection_none form s n e = ap (collection_text form n) (get_collection s n) �
     by (Some t) f = cc
 
 -- ---- the lines that are left
-
-fields_object : (d : Fields) → fields (Object d) ≡ d
-fields_object d = ap fields_at (outs-Object d)
 
 pub line_first : (form : ListForm) (h : Held) (vs rest : List Value) → vs ≡ Object (held_document h) ∷ rest → document_lines form vs ≡ document_line form (held_document h) ++ document_lines form rest
 line_first form h vs rest e = ap (document_lines form) e ∙ ap (λ (d : Fields). document_line form d ++ document_lines form rest) (fields_object (held_document h))

@@ -104,7 +104,7 @@ first_no_larger d = by (id_of d) refl
 abbrev Fits : Document → Type 0
 Fits d = (length (document_text d) ≤ 16777216) × (levels_of d ≤ 100)
 
-both : (a b : Bool) → a ≡ true → b ≡ true → (a && b) ≡ true
+pub both : (a b : Bool) → a ≡ true → b ≡ true → (a && b) ≡ true
 both true b e f = f
 both false b e f = e
 

@@ -1,6 +1,6 @@
 -- An update that is accepted leaves a document with its `_id`, which is short.
 use Rattle.std.proofs.Common.{◌≡◌, ℕ, ◌+◌, ◌≤◌, List, [], ◌∷◌, ◌++◌, length, Bool, true, false, refl, sym, ◌∙◌, subst, arith, Option, Some, None}
-use Rattle.std.specs.Prelude.{⊤, ◌||◌, ◌&&◌, not, if◌then◌else◌, nat_lt, nat_le, Ok, Err}
+use Rattle.std.specs.Prelude.{⊤, ◌||◌, not, if◌then◌else◌, nat_lt, nat_le, Ok, Err}
 use Rattle.std.specs.List.{list_any}
 use Rattle.std.proofs.lemmas.Bool.{le-leb}
 use Rattle.std.proofs.lemmas.Grind.{common_steps}
@@ -44,6 +44,7 @@ use Rattle.history_model.specs.Refusals.{accepted}
 use Rattle.history_model.proofs.WellFormed.{accepted_ok}
 use Rattle.stored_documents.specs.Laws.{UpdateKeepsId, UpdateIsShort}
 use Rattle.stored_documents.proofs.Steps.{Keeps, stays, then_keeps, changed_keeps}
+use Rattle.stored_documents.proofs.Sizes.{both}
 
 -- ---- each operator
 
@@ -196,10 +197,6 @@ on_act_good go large v Oversized h k = h true v
 
 not_more : (a b : ℕ) → nat_lt a b ≡ false → nat_le b a ≡ true
 not_more a b e = (let l : b ≤ a = grind (arith, common_steps) in le-leb b a l)
-
-both : (a b : Bool) → a ≡ true → b ≡ true → (a && b) ≡ true
-both true b e f = f
-both false b e f = e
 
 -- a document that isn't refused at the end
 end_short : (large : Bool) (d : Document) → refusal_at_end large d ≡ None → is_short d ≡ true
