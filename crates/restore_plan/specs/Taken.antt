@@ -25,7 +25,7 @@ use Rattle.restore_plan.specs.declared.restore.Restore.{Restore}
 use Rattle.restore_plan.specs.Faults.{of_replay, of_indexes}
 use Rattle.restore_plan.specs.Base.{is_of_base, base_step, entries_in, played, bad_at, or_later}
 
--- what was made of the takings so far: a state, the entries that wait to be replayed on it, and the namespaces that were ended, in their order
+-- what was made of the takings so far: a state, the entries that wait to be replayed on it, and the namespaces that were ended, in the order of names
 pub record Contents : Type 0 where
   pub state : State
   pub entries : List Entry
