@@ -7,6 +7,7 @@ pub mod Owned
 pub mod Told
 pub mod Built
 pub mod Apart
+pub mod Rising
 pub mod Searches
 pub mod Swapped
 pub mod Alike

@@ -1,8 +1,6 @@
 -- Who has a key, after each change of the holders.
-use Rattle.std.proofs.Common.{◌≡◌, List, [], ◌∷◌, ◌++◌, Bool, true, false, not, refl, sym, ap, ◌∙◌, subst, Option, Some, None}
+use Rattle.std.proofs.Common.{◌≡◌, List, [], ◌∷◌, ◌++◌, Bool, true, false, refl, sym, ap, ◌∙◌, Option, Some, None}
 use Rattle.std.specs.Prelude.{◌||◌, is_some, if◌then◌else◌}
-use Rattle.std.specs.List.{filter}
-use Rattle.std.specs.Ordering.{is_eq}
 use Rattle.std.specs.Str.{bytes_eq}
 use Rattle.std.specs.Cmp.Lexicographic.{texts_ties}
 use Rattle.state_model.specs.Keys.{Key, key_cmp, same_key}
@@ -10,7 +8,7 @@ use Rattle.state_model.proofs.Keys.{key_total, key_anti, key_is, key_turn}
 use Rattle.coll_state.specs.Stock.{Rise, beside}
 use Rattle.coll_state.proofs.Keyed.{found_take}
 use Rattle.sorted_list.specs.Order.{take_out}
-use Rattle.index_build.specs.declared.holders.Holder.{Holder}
+use Rattle.index_build.specs.declared.holder.Holder.{Holder}
 use Rattle.index_build.specs.Faults.{or_else}
 use Rattle.index_build.specs.Holders.{holder_key, found_key, id_in, holder_of}
 use Rattle.index_build.specs.Owners.{Texts, has}
@@ -48,9 +46,10 @@ none_first None None e = (refl, refl)
 none_first None (Some x) e = cc
 none_first (Some x) p e = cc
 
-pub given_more : (recent settled : List Holder) (h : Holder) → holder_of recent settled h.key ≡ None → (t : Key) → holder_of (recent ++ h ∷ []) settled t ≡ or_else (holder_of recent settled t) (id_in (found_key t (h ∷ [])))
-given_more recent settled h none t =
-    ap (λ (o : Option Holder). id_in (or_else o (found_key t settled))) (found_append t recent h) ∙ by (same_key h.key t) refl
+pub given_more : (recent settled after : List Holder) (h : Holder) → ((t : Key) → found_key t after ≡ or_else (found_key t recent) (found_key t (h ∷ []))) → holder_of recent settled h.key ≡ None → (t : Key) →
+    holder_of after settled t ≡ or_else (holder_of recent settled t) (id_in (found_key t (h ∷ [])))
+given_more recent settled after h e none t =
+    ap (λ (o : Option Holder). id_in (or_else o (found_key t settled))) (e t) ∙ by (same_key h.key t) refl
   where
     off : (r s : Option Holder) → id_in (or_else (or_else r None) s) ≡ or_else (id_in (or_else r s)) None
     off r s = ap (λ (o : Option Holder). id_in (or_else o s)) (or_nothing r) ∙ sym (or_nothing (id_in (or_else r s)))
@@ -63,6 +62,10 @@ given_more recent settled h none t =
     by : (b : Bool) → same_key h.key t ≡ b → id_in (or_else (or_else (found_key t recent) (if b then Some h else None)) (found_key t settled)) ≡ or_else (holder_of recent settled t) (id_in (if b then Some h else None))
     by true e = on (found_key t recent) (found_key t settled) (none_first (found_key t recent) (found_key t settled) (ap (holder_of recent settled) (sym (key_is h.key t e)) ∙ none))
     by false e = off (found_key t recent) (found_key t settled)
+
+-- none of the newest has a key that nobody has
+pub none_of_newest : (recent settled : List Holder) (k : Key) → holder_of recent settled k ≡ None → found_key k recent ≡ None
+none_of_newest recent settled k e = (none_first (found_key k recent) (found_key k settled) e).0
 
 -- all that are given, one after the other
 pub given_all : (t : Key) (o p : Option Key) (h : Holder) (hs : List Holder) → p ≡ or_else o (id_in (found_key t (h ∷ []))) → or_else p (id_in (found_key t hs)) ≡ or_else o (id_in (found_key t (h ∷ hs)))
@@ -90,41 +93,34 @@ settled_one recent settled after h e t =
 
 -- ---- keys that nobody has any more
 
-pub found_filter : (t k : Key) (hs : List Holder) → found_key t (filter (λ (h : Holder). not (is_eq (key_cmp h.key k))) hs) ≡ (if same_key t k then None else found_key t hs)
-found_filter t k [] = nothing (same_key t k)
-  where
-    nothing : (b : Bool) → ◌≡◌ {A = Option Holder} None (if b then None else None)
-    nothing true = refl
-    nothing false = refl
-found_filter t k (h ∷ hs) = by (same_key h.key k) (same_key h.key t) (same_key t k) refl refl refl (found_filter t k hs)
-  where
-    by : (a b c : Bool) → same_key h.key k ≡ a → same_key h.key t ≡ b → same_key t k ≡ c → found_key t (filter (λ (x : Holder). not (is_eq (key_cmp x.key k))) hs) ≡ (if c then None else found_key t hs) →
-        found_key t (if not a then h ∷ filter (λ (x : Holder). not (is_eq (key_cmp x.key k))) hs else filter (λ (x : Holder). not (is_eq (key_cmp x.key k))) hs) ≡ (if c then None else if b then Some h else found_key t hs)
-    by true b true e f g later = later
-    by true false false e f g later = later
-    by true true false e f g later =
-        let same : same_key t k ≡ true = subst (λ (z : Key). same_key z k ≡ true) (key_is h.key t f) e in
-        let no : true ≡ false = sym same ∙ g in cc
-    by false true false e f g later = ap (λ (b : Bool). if b then Some h else found_key t (filter (λ (x : Holder). not (is_eq (key_cmp x.key k))) hs)) f
-    by false false c e f g later = ap (λ (b : Bool). if b then Some h else found_key t (filter (λ (x : Holder). not (is_eq (key_cmp x.key k))) hs)) f ∙ later
-    by false true true e f g later =
-        let same : same_key h.key k ≡ true = subst (λ (z : Key). same_key z k ≡ true) (sym (key_is h.key t f)) g in
-        let no : true ≡ false = sym same ∙ e in cc
-
-pub taken_one : (recent settled : List Holder) (k : Key) → Rise key_cmp holder_key settled → (t : Key) →
-    holder_of (filter (λ (h : Holder). not (is_eq (key_cmp h.key k))) recent) (take_out (beside key_cmp holder_key k) settled) t ≡ (if same_key t k then None else holder_of recent settled t)
-taken_one recent settled k r t =
-    (λ i. id_in (or_else (found_filter t k recent i) (found_take key_cmp key_total key_anti holder_key settled k t r i))) ∙ by (same_key t k)
+pub taken_one : (recent settled after : List Holder) (k : Key) → ((t : Key) → found_key t after ≡ (if same_key t k then None else found_key t recent)) → Rise key_cmp holder_key settled → (t : Key) →
+    holder_of after (take_out (beside key_cmp holder_key k) settled) t ≡ (if same_key t k then None else holder_of recent settled t)
+taken_one recent settled after k e r t =
+    (λ i. id_in (or_else (e t i) (found_take key_cmp key_total key_anti holder_key settled k t r i))) ∙ by (same_key t k)
   where
     by : (b : Bool) → id_in (or_else (if b then None else found_key t recent) (if b then None else found_key t settled)) ≡ (if b then None else holder_of recent settled t)
     by true = refl
     by false = refl
 
--- one after the other
-pub taken_all : (t k : Key) (rest : Texts) (o p : Option Key) → p ≡ (if same_key t k then None else o) → (if has t rest then None else p) ≡ (if has t (k ∷ rest) then None else o)
-taken_all t k rest o p e = ap (λ (z : Option Key). if has t rest then None else z) e ∙ by (has t rest) (same_key t k) (bytes_eq t k) (sym (texts_ties t k))
+has_last : (t : Key) (rest : Texts) (k : Key) → has t (rest ++ k ∷ []) ≡ (has t rest || bytes_eq t k)
+has_last t [] k = or_false (bytes_eq t k)
   where
-    by : (a b c : Bool) → b ≡ c → (if a then None else if b then None else o) ≡ (if c || a then None else o)
+    or_false : (b : Bool) → (b || false) ≡ b
+    or_false true = refl
+    or_false false = refl
+has_last t (x ∷ rest) k = by (bytes_eq t x) (has_last t rest k)
+  where
+    by : (b : Bool) → has t (rest ++ k ∷ []) ≡ (has t rest || bytes_eq t k) → (b || has t (rest ++ k ∷ [])) ≡ ((b || has t rest) || bytes_eq t k)
+    by true e = refl
+    by false e = e
+
+-- one after the other, the last first
+pub taken_all : (t k : Key) (rest : Texts) (o p : Option Key) → p ≡ (if same_key t k then None else o) → (if has t rest then None else p) ≡ (if has t (rest ++ k ∷ []) then None else o)
+taken_all t k rest o p e =
+    ap (λ (z : Option Key). if has t rest then None else z) e
+    ∙ (by (has t rest) (same_key t k) (bytes_eq t k) (sym (texts_ties t k)) ∙ ap (λ (b : Bool). if b then None else o) (sym (has_last t rest k)))
+  where
+    by : (a b c : Bool) → b ≡ c → (if a then None else if b then None else o) ≡ (if a || c then None else o)
     by true true true e = refl
     by true false false e = refl
     by false true true e = refl

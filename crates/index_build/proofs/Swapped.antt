@@ -15,7 +15,7 @@ use Rattle.coll_state.specs.Stock.{AllAfter, Rise, beside}
 use Rattle.coll_state.proofs.Keyed.{found_put, found_take, rise_put, rise_take}
 use Rattle.sorted_list.specs.Order.{found, put_in, take_out}
 use Rattle.index_build.specs.declared.entry.Entry.{Entry}
-use Rattle.index_build.specs.declared.holders.Holder.{Holder}
+use Rattle.index_build.specs.declared.holder.Holder.{Holder}
 use Rattle.index_keys.specs.declared.plan.Plan.{Plan}
 use Rattle.index_build.specs.Entries.{entry_key, owned_of, owned_in, put_or_removed, keys_refusal}
 use Rattle.index_build.specs.Faults.{or_else, meet}

@@ -1,14 +1,15 @@
 -- Who has the keys of a unique index: those that came last, before those that stand in the order of the keys.
-use Rattle.std.specs.Prelude.{ℕ, zero, suc, ◌≡◌, ◌-◌, List, [], ◌∷◌, map as each, length, Bool, true, false, Option, Some, None, option_map, Vec, vec_capacity, if◌then◌else◌}
-use Rattle.std.specs.declared.alloc.Global.{Global}
+use Rattle.std.specs.Prelude.{ℕ, zero, suc, ◌≡◌, List, [], ◌∷◌, map as each, Bool, true, false, Option, Some, None, option_map, if◌then◌else◌, refl}
+use Rattle.std.specs.Coded.{Coded, code_by, coded×}
 use Rattle.std.specs.Ordering.{is_lt}
 use Rattle.std.specs.FinMap as map
 use Rattle.state_model.specs.Keys.{Key, key_cmp, same_key}
+use Rattle.coll_state.specs.Codes.{bytes_code}
 use Rattle.coll_state.specs.Stock.{Rise, beside}
 use Rattle.sorted_list.specs.Order.{found}
 use Rattle.index_keys.specs.declared.plan.Plan.{Plan}
 use Rattle.index_build.specs.declared.entry.Entry.{Entry}
-use Rattle.index_build.specs.declared.holders.Holder.{Holder}
+use Rattle.index_build.specs.declared.holder.Holder.{Holder}
 use Rattle.index_build.specs.Entries.{entry_key, owned_in, keys_of, IsUnder}
 use Rattle.index_build.specs.Faults.{or_else}
 use Rattle.index_build.specs.Owned.{Owned}
@@ -16,6 +17,9 @@ use Rattle.index_build.specs.Owners.{Texts, has}
 
 abbrev pub holder_key : Holder → Key
 holder_key h = h.key
+
+abbrev pub holder_code : Coded Holder
+holder_code = code_by (Key × Key) (coded× bytes_code bytes_code) (λ h. (h.key, h.id)) (λ p. record { key = p.0; id = p.1 }) (λ _. refl)
 
 abbrev pub id_in : Option Holder → Option Key
 id_in o = option_map (λ (h : Holder). h.id) o
@@ -26,10 +30,6 @@ found_key t hs = found (beside key_cmp holder_key t) hs
 
 abbrev pub holder_of : List Holder → List Holder → Key → Option Key
 holder_of recent settled t = id_in (or_else (found_key t recent) (found_key t settled))
-
--- how many more there is room for
-abbrev pub room_in : Vec Holder Global → ℕ
-room_in recent = vec_capacity recent - length recent.items
 
 -- a document with its keys
 abbrev pub held_by : Key → Texts → List Holder

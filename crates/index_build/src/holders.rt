@@ -4,20 +4,15 @@ ghost use Rattle.std.specs.Option.{option_copied};
 ghost use Rattle.state_model.specs.Keys.{key_cmp, same_key};
 ghost use Rattle.coll_state.specs.Stock.{Rise};
 ghost use Rattle.index_build.specs.Faults.{or_else};
-ghost use Rattle.index_build.specs.Holders.{holder_key, found_key, id_in, holder_of, room_in, lesser_key, but_for, least_other};
+ghost use Rattle.index_build.specs.Holders.{holder_key, found_key, id_in, holder_of, lesser_key, but_for, least_other};
 ghost use Rattle.index_build.specs.Owners.{has};
 
+use crate::holder::Holder;
+use crate::newest::Newest;
 use bson_value::Bytes;
 use index_keys::Key;
 use sorted_list::SortedList;
 use std::alloc::{AllocError, Global};
-
-/// The document that has a key, by the key of its `_id`.
-#[derive(Drop)]
-pub(crate) struct Holder {
-    pub(crate) key: Key,
-    pub(crate) id: Bytes,
-}
 
 /// The documents that have the keys of a unique index.
 ///
@@ -25,21 +20,7 @@ pub(crate) struct Holder {
 #[derive(Drop)]
 pub(crate) struct Holders {
     settled: SortedList<Holder>,
-    recent: Vec<Holder>,
-}
-
-// The first of these that has the key.
-fn first_of<'a>(holders: &'a [Holder], key: &Key) -> Option<&'a Holder>
-    ensures { option_copied result ≡ found_key key.now holders.now }
-{
-    let mut left = holders;
-    while let Some((holder, rest)) = left.split_first() {
-        if holder.key.cmp(key).is_eq() {
-            return Some(holder);
-        }
-        left = rest;
-    }
-    None
+    recent: Newest,
 }
 
 // The holder in the place of the one of its key.
@@ -79,7 +60,7 @@ impl Holders {
     {
         Holders {
             settled: SortedList::new(alloc),
-            recent: Vec::new(alloc),
+            recent: Newest::new(alloc),
         }
     }
 
@@ -87,7 +68,7 @@ impl Holders {
         requires rise { Rise key_cmp holder_key self.now.settled.items }
         ensures { option_copied result ≡ or_else (found_key key.now self.now.recent.items) (found_key key.now self.now.settled.items) }
     {
-        match first_of(self.recent.as_slice(), key) {
+        match self.recent.find(key) {
             Some(holder) => Some(holder),
             None => self.settled.find(|holder| holder.key.cmp(key)),
         }
@@ -138,7 +119,7 @@ impl Holders {
         requires rise { Rise key_cmp holder_key self.old.settled.items }
         ensures rise { Rise key_cmp holder_key self.new.settled.items }
         ensures same { (t : List ℕ) → holder_of self.new.recent.items self.new.settled.items t ≡ holder_of self.old.recent.items self.old.settled.items t }
-        ensures room { OnOk result (more ≤ room_in self.new.recent) }
+        ensures room { OnOk result (more ≤ self.new.recent.room) }
     {
         self.settle()?;
         self.recent.reserve(more)
@@ -147,24 +128,21 @@ impl Holders {
     // The holder of a key that nobody has.
     fn give(&mut self, holder: Holder)
         requires rise { Rise key_cmp holder_key self.old.settled.items }
-        requires room { 1 ≤ room_in self.old.recent }
+        requires room { 1 ≤ self.old.recent.room }
         ensures settled { self.new.settled ≡ self.old.settled }
         ensures holders { (t : List ℕ) → holder_of self.new.recent.items self.new.settled.items t ≡ or_else (holder_of self.old.recent.items self.old.settled.items t) (id_in (found_key t (holder ∷ []))) }
-        ensures room { room_in self.old.recent ≤ room_in self.new.recent + 1 }
+        ensures room { self.old.recent.room ≤ self.new.recent.room + 1 }
     {
         if self.find(&holder.key).is_some() {
             return;
         }
-        match self.recent.push(holder) {
-            Ok(()) => {}
-            Err(_) => unreachable!(),
-        }
+        self.recent.put(holder);
     }
 
     /// The holders of keys that nobody has.
     pub(crate) fn give_all(&mut self, holders: Vec<Holder>)
         requires rise { Rise key_cmp holder_key self.old.settled.items }
-        requires room { length holders.items ≤ room_in self.old.recent }
+        requires room { length holders.items ≤ self.old.recent.room }
         ensures settled { self.new.settled ≡ self.old.settled }
         ensures holders { (t : List ℕ) → holder_of self.new.recent.items self.new.settled.items t ≡ or_else (holder_of self.old.recent.items self.old.settled.items t) (id_in (found_key t holders.items)) }
     {
@@ -178,21 +156,21 @@ impl Holders {
         requires rise { Rise key_cmp holder_key self.old.settled.items }
         ensures rise { Rise key_cmp holder_key self.new.settled.items }
         ensures holders { (t : List ℕ) → holder_of self.new.recent.items self.new.settled.items t ≡ (if same_key t key.now then None else holder_of self.old.recent.items self.old.settled.items t) }
-        ensures room { room_in self.old.recent ≤ room_in self.new.recent }
+        ensures room { self.old.recent.room ≤ self.new.recent.room }
     {
         let _ = self.settled.remove(|holder| holder.key.cmp(key));
-        self.recent.retain(|holder| !holder.key.cmp(key).is_eq());
+        self.recent.remove(key);
     }
 
-    /// Nobody has the keys any more.
+    /// Nobody has the keys any more. The last goes first: so none moves among the newest where these are of one document.
     pub(crate) fn take_all(&mut self, keys: &[Key])
         requires rise { Rise key_cmp holder_key self.old.settled.items }
         ensures rise { Rise key_cmp holder_key self.new.settled.items }
         ensures holders { (t : List ℕ) → holder_of self.new.recent.items self.new.settled.items t ≡ (if has t keys.now then None else holder_of self.old.recent.items self.old.settled.items t) }
-        ensures room { room_in self.old.recent ≤ room_in self.new.recent }
+        ensures room { self.old.recent.room ≤ self.new.recent.room }
     {
         let mut left = keys;
-        while let Some((key, rest)) = left.split_first() {
+        while let Some((key, rest)) = left.split_last() {
             self.take(key);
             left = rest;
         }

@@ -9,12 +9,13 @@ ghost use Rattle.coll_state.specs.Stock.{Rise};
 ghost use Rattle.index_keys.specs.Keys.{parallel};
 ghost use Rattle.index_keys.specs.Texts.{key_texts};
 ghost use Rattle.index_build.specs.Entries.{entry_key, owned_of, owned_in, exchanged, room_for, exchange_refusal};
-ghost use Rattle.index_build.specs.Holders.{holder_key, found_key, id_in, holder_of, held_by, released, room_in};
+ghost use Rattle.index_build.specs.Holders.{holder_key, found_key, id_in, holder_of, held_by, released};
 ghost use Rattle.index_build.specs.Owned.{refusal, refusal_if, refusal_by, first_other, put_document, pairs_in, texts_count, shared_fault, IsIndexFault};
 
 use crate::entries::{Entries, find, put, remove};
 use crate::entry::Entry;
-use crate::holders::{Holder, Holders};
+use crate::holder::Holder;
+use crate::holders::Holders;
 use crate::index_fault::IndexFault;
 use crate::swap::Swap;
 use bson_encode::put_key;
@@ -44,9 +45,9 @@ impl Model for Index {
     ghost coded = { holding_code };
 
     ghost use Rattle.index_build.specs.Entries.{owned_in};
-    ghost use Rattle.index_build.specs.Holders.{room_in, spare_in, AreKept};
+    ghost use Rattle.index_build.specs.Holders.{spare_in, AreKept};
 
-    ghost view = { λ i. record { plan = i.plan; owned = owned_in i.entries.items; spare = spare_in i.entries.room (room_in i.holders.recent) } };
+    ghost view = { λ i. record { plan = i.plan; owned = owned_in i.entries.items; spare = spare_in i.entries.room i.holders.recent.room } };
 
     ghost invariant = { λ i. AreKept i.plan i.entries.items i.holders.recent.items i.holders.settled.items };
 }
@@ -104,7 +105,7 @@ fn release(entries: &Entries, holders: &mut Holders, id: &Bytes)
     requires rise { Rise key_cmp holder_key holders.old.settled.items }
     ensures rise { Rise key_cmp holder_key holders.new.settled.items }
     ensures holders { (t : List ℕ) → holder_of holders.new.recent.items holders.new.settled.items t ≡ released (map.get (owned_in entries.now.items) id.now) (holder_of holders.old.recent.items holders.old.settled.items) t }
-    ensures room { room_in holders.old.recent ≤ room_in holders.new.recent }
+    ensures room { holders.old.recent.room ≤ holders.new.recent.room }
 {
     if let Some(entry) = find(entries, id) {
         holders.take_all(entry.keys.as_slice());
@@ -115,7 +116,7 @@ fn release(entries: &Entries, holders: &mut Holders, id: &Bytes)
 fn hand_over(unique: bool, entries: &Entries, holders: &mut Holders, id: &Bytes, own: Vec<Holder>)
     requires entries { Rise key_cmp entry_key entries.now.items }
     requires rise { Rise key_cmp holder_key holders.old.settled.items }
-    requires room { unique ≡ true → length own.items ≤ room_in holders.old.recent }
+    requires room { unique ≡ true → length own.items ≤ holders.old.recent.room }
     ensures rise { Rise key_cmp holder_key holders.new.settled.items }
     ensures holders { unique ≡ true → (t : List ℕ) → holder_of holders.new.recent.items holders.new.settled.items t ≡ or_else (released (map.get (owned_in entries.now.items) id.now) (holder_of holders.old.recent.items holders.old.settled.items) t) (id_in (found_key t own.items)) }
 {

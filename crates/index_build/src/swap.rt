@@ -1,6 +1,6 @@
 //! What an index is to have in the place of what an `_id` had.
 use crate::entry::Entry;
-use crate::holders::Holder;
+use crate::holder::Holder;
 use bson_value::Bytes;
 use std::marker::Model;
 

@@ -1,7 +1,7 @@
 use Rattle.std.proofs.Common.{List, sym, ap, ◌∙◌, Some}
 use Rattle.std.specs.Prelude.{if◌then◌else◌}
 use Rattle.state_model.specs.Keys.{same_key}
-use Rattle.index_build.specs.declared.holders.Holder.{Holder}
+use Rattle.index_build.specs.declared.holder.Holder.{Holder}
 use Rattle.index_build.specs.Holders.{found_key, holder_of}
 use Rattle.index_build.proofs.Searches.{settled_one}
 use Rattle.index_build.proofs.holders.Holders.settle.Goals as goal

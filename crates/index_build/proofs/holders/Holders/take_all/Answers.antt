@@ -1,6 +1,6 @@
-use Rattle.std.proofs.Common.{◌≡◌, ◌∷◌, ◌≤◌, ◌∙◌, rules, sym, ap, None, arith}
+use Rattle.std.proofs.Common.{◌≡◌, [], ◌∷◌, ◌++◌, ◌≤◌, ◌∙◌, rules, sym, ap, None, arith}
 use Rattle.std.specs.Prelude.{if◌then◌else◌}
-use Rattle.index_build.specs.Holders.{holder_of, room_in}
+use Rattle.index_build.specs.Holders.{holder_of}
 use Rattle.index_build.specs.Owners.{Texts, has}
 use Rattle.index_build.proofs.Searches.{taken_all}
 use Rattle.index_build.proofs.holders.Holders.take_all.Goals as goal
@@ -9,10 +9,10 @@ pub loop-key-preserved : goal.loop-key-preserved
 loop-key-preserved c =
     let k = c.in-Some.key.now in
     let rest = c.in-Some.rest.now in
-    let parts : c.loop-key.left.now ≡ k ∷ rest = search rules in
+    let parts : c.loop-key.left.now ≡ rest ++ k ∷ [] = search rules in
     let a = c.take.ensures.room in
     let b = c.loop-key.invariant.1 in
-    let room : room_in c.args.self.now.recent ≤ room_in c.take.new.self.recent = omega (arith, a, b) in (
+    let room : c.args.self.now.recent.room ≤ c.take.new.self.recent.room = omega (arith, a, b) in (
       c.take.ensures.rise,
       room,
       λ t.
