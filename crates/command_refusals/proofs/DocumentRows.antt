@@ -1,17 +1,15 @@
 -- The conditions that the code finds are those of the rows.
-use Rattle.std.proofs.Common.{◌≡◌, Bool, true, false, not, refl, ap, ◌∙◌, Option, Some, None}
+use Rattle.std.proofs.Common.{◌≡◌, Bool, true, false, not, refl, ap, ◌∙◌, Option, None}
 use Rattle.std.specs.Prelude.{◌&&◌, is_some}
 use Rattle.std.specs.FinMap as map
 use Rattle.bson_value.specs.declared.namespace.NsName.{NsName}
 use Rattle.bson_value.specs.declared.value.Value.{Value}
 use Rattle.bson_encode.specs.Key.{key_of}
-use Rattle.state_model.specs.Keys.{Key}
-use Rattle.coll_state.specs.Rows.{Document as Fields, Row, Rows, Table, id_of}
-use Rattle.update_model.specs.declared.updated.Updated.{Updated}
-use Rattle.schedule_model.specs.declared.command.DocumentCommand.TheVariants.{Insert, Replace, Update, Delete}
+use Rattle.coll_state.specs.Rows.{Document as Fields, Rows, id_of}
+use Rattle.schedule_model.specs.declared.command.DocumentCommand.TheVariants.{Insert, Replace, Delete}
 use Rattle.schedule_model.specs.declared.refused.Refused.{Refused}
 use Rattle.history_model.specs.Documents.{is_good_document, is_bad_name}
-use Rattle.history_model.specs.Refusals.{is_there, rows_in, row_in, row_at, row_named, definitions_in, with_good, with_update, rows_with, update_of, any_definition, unique_clash, any_parallel, document_refusal}
+use Rattle.history_model.specs.Refusals.{is_there, rows_in, row_at, row_named, definitions_in, with_good, rows_with, any_definition, unique_clash, any_parallel, document_refusal}
 use Rattle.command_refusals.specs.Conditions.{first_row}
 use Rattle.command_refusals.specs.Tests.{rows_refusal}
 use Rattle.command_refusals.proofs.Rows.{first_is}
@@ -43,41 +41,6 @@ replace_row n d r lone there good new tested a b c e f =
     let ds = definitions_in (map.get r.tables n) in
     (λ i. first_row (record { no_namespace = (ap not b ∙ and_yes (not (is_there n r))) i; duplicate_id = false; no_document = a i; tested = f i; bad_document = not (c i); bad_update = false; bad_name = e i }))
     ∙ first_is (not (is_there n r) && true) false (is_some (id_of d) && not (is_some (row_named n (id_of d) r))) (any_definition unique_clash after ds) (any_definition any_parallel after ds) (not (is_good_document d)) false (not (is_there n r) && is_bad_name n))
-
-pub update_row : (n : NsName) (id : Value) (ops : Fields) (r : Rows) (at there new : Bool) (tested : Option Refused) (u : Option Updated) (none : Bool) →
-    at ≡ is_some (row_at n (key_of id) r) → there ≡ map.contains_key r.tables n → new ≡ (not (is_there n r) && is_bad_name n) → u ≡ update_of (row_at n (key_of id) r) ops → none ≡ not (is_some u) →
-    tested ≡ rows_refusal (with_update id u (rows_in (map.get r.tables n))) (definitions_in (map.get r.tables n)) →
-    first_row (record { no_namespace = not there; duplicate_id = false; no_document = not at; tested = tested; bad_document = false; bad_update = none; bad_name = new }) ≡ document_refusal false (Update n id ops) r
-update_row n id ops r at there new tested u none a b e g m f =
-    (let after = rows_with (Update n id ops) r in
-    let ds = definitions_in (map.get r.tables n) in
-    let told : tested ≡ rows_refusal after ds = f ∙ ap (λ (o : Option Updated). rows_refusal (with_update id o (rows_in (map.get r.tables n))) ds) g in
-    let bad : none ≡ not (is_some (update_of (row_at n (key_of id) r) ops)) = m ∙ ap (λ (o : Option Updated). not (is_some o)) g in
-    (λ i. first_row (record { no_namespace = (ap not b ∙ and_yes (not (is_there n r))) i; duplicate_id = false; no_document = not (a i); tested = told i; bad_document = false; bad_update = bad i; bad_name = e i }))
-    ∙ first_is (not (is_there n r) && true) false (not (is_some (row_at n (key_of id) r))) (any_definition unique_clash after ds) (any_definition any_parallel after ds) false (not (is_some (update_of (row_at n (key_of id) r) ops))) (not (is_there n r) && is_bad_name n))
-
--- an update that gives a document is one of a document that is there, which the indexes alone refuse
-made_there : (o : Option Row) (ops : Fields) (u : Updated) → Some u ≡ update_of o ops → true ≡ is_some o
-made_there None ops u e = ap is_some e
-made_there (Some row) ops u e = refl
-
-table_there : (k : Key) (t : Option Table) → true ≡ is_some (row_in k t) → true ≡ is_some t
-table_there k None e = e
-table_there k (Some t) e = refl
-
-tested_alone : (tested : Option Refused) → tested ≡ first_row (record { no_namespace = not true; duplicate_id = false; no_document = not true; tested = tested; bad_document = false; bad_update = false; bad_name = false })
-tested_alone None = refl
-tested_alone (Some row) = refl
-
-pub made_row : (n : NsName) (id : Value) (ops : Fields) (r : Rows) (tested : Option Refused) (u : Updated) →
-    Some u ≡ update_of (row_at n (key_of id) r) ops →
-    tested ≡ rows_refusal (with_update id (Some u) (rows_in (map.get r.tables n))) (definitions_in (map.get r.tables n)) →
-    tested ≡ document_refusal false (Update n id ops) r
-made_row n id ops r tested u e f =
-    (let at : true ≡ is_some (row_at n (key_of id) r) = made_there (row_at n (key_of id) r) ops u e in
-    let there : true ≡ is_there n r = table_there (key_of id) (map.get r.tables n) at in
-    tested_alone tested
-    ∙ update_row n id ops r true true false tested (Some u) false at there (ap (λ (b : Bool). not b && is_bad_name n) there) e refl f)
 
 pub delete_row : (n : NsName) (id : Value) (r : Rows) (at there new : Bool) →
     at ≡ is_some (row_at n (key_of id) r) → there ≡ map.contains_key r.tables n → new ≡ (not (is_there n r) && is_bad_name n) →

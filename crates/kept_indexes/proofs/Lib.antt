@@ -6,3 +6,4 @@ pub mod Entries
 pub mod Clashing
 pub mod Judged
 pub mod Built
+pub mod Told

@@ -1,6 +1,6 @@
 -- What is kept of each collection as the rows of one of them move.
-use Rattle.std.proofs.Common.{◌≡◌, List, true, false, refl, sym, ap, ◌∙◌, subst, Option, Some, None, inl, inr}
-use Rattle.std.specs.Prelude.{◌⊎◌}
+use Rattle.std.proofs.Common.{◌≡◌, List, true, false, refl, sym, ap, ◌∙◌, subst, Option, Some, None, Result, Ok, Err, inl, inr}
+use Rattle.std.specs.Prelude.{◌⊎◌, OnOk, OnErr, is_some}
 use Rattle.std.specs.FinMap as map
 use Rattle.std.proofs.lemmas.Bool.{cases_Bool}
 use Rattle.bson_value.specs.declared.namespace.NsName.{NsName}
@@ -13,8 +13,8 @@ use Rattle.coll_state.specs.Changes.{Tables, put_table, drop_table, or_fresh, on
 use Rattle.coll_state.proofs.RowLists.{rising_put, rising_drop}
 use Rattle.index_build.specs.Owned.{Holding}
 use Rattle.history_model.specs.Indexes.{IndexesHold}
-use Rattle.kept_indexes.specs.Kept.{KeptCollections, plans_of, IsKept, kept_at, AreKept, AreElsewhere}
-use Rattle.kept_indexes.specs.Moves.{ArePut, AreTakenOut}
+use Rattle.kept_indexes.specs.Kept.{KeptCollections, plans_of, IsKept, kept_at, AreKept, AreElsewhere, HasIndexes}
+use Rattle.kept_indexes.specs.Moves.{Becomes, ArePut, AreTakenOut}
 use Rattle.kept_indexes.proofs.Over.{over_put, over_taken}
 
 -- ---- names
@@ -50,6 +50,48 @@ elsewhere_keeps cs cs' r s n kept elsewhere none others = mostly_kept cs cs' r s
   where
     no_some : (hs : List Holding) → None ≡ Some hs → ⊥
     no_some hs e = cc
+
+-- ---- a collection that is taken out, and in again with other indexes where there is memory
+
+abbrev Moved : (List Holding → List Holding → Type 0) → KeptCollections → NsName → List Holding → Type 0
+Moved P cs n gs = (hs : List Holding) × (kept_at cs n ≡ Some hs) × P hs gs
+
+no_indexes : (gs : List Holding) → None ≡ Some gs → ⊥
+no_indexes gs e = cc
+
+same_indexes : (hs gs : List Holding) → Some hs ≡ Some gs → hs ≡ gs
+same_indexes hs gs e = cc
+
+-- nothing is kept
+pub none_moved : (P : List Holding → List Holding → Type 0) (cs cs' : KeptCollections) (n : NsName) → kept_at cs' n ≡ None → (gs : List Holding) → kept_at cs' n ≡ Some gs → Moved P cs n gs
+none_moved P cs cs' n e gs at = absurd (no_indexes gs (sym e ∙ at))
+
+pub none_becomes : (P : List Holding → List Holding → Type 0) (o p : Option (List Holding)) → o ≡ None → p ≡ None → Becomes P o p
+none_becomes P o p e f = subst (λ (x : Option (List Holding)). Becomes P x p) (sym e) (subst (Becomes P None) (sym f) tt)
+
+-- these indexes are kept, or nothing is
+pub taken_in : {E : Type 0} (P : List Holding → List Holding → Type 0) (cs mid cs' : KeptCollections) (n : NsName) (hs is : List Holding) (r : Result (Unit {0}) E) → kept_at cs n ≡ Some hs → kept_at mid n ≡ None → P hs is → OnOk r (kept_at cs' n ≡ Some is) → OnErr r (cs' ≡ mid) →
+    (gs : List Holding) → kept_at cs' n ≡ Some gs → Moved P cs n gs
+taken_in P cs mid cs' n hs is (Ok u) e f p ok err gs at = (hs, e, subst (P hs) (same_indexes is gs (sym ok ∙ at)) p)
+taken_in P cs mid cs' n hs is (Err x) e f p ok err gs at = none_moved P cs mid n f gs (ap (λ (k : KeptCollections). kept_at k n) (sym err) ∙ at)
+
+pub becomes : {E : Type 0} (P : List Holding → List Holding → Type 0) (o p : Option (List Holding)) (hs is : List Holding) (r : Result (Unit {0}) E) → o ≡ Some hs → P hs is → OnOk r (p ≡ Some is) → OnOk r (Becomes P o p)
+becomes P o p hs is (Ok u) e h ok = subst (λ (x : Option (List Holding)). Becomes P x p) (sym e) (subst (Becomes P (Some hs)) (sym ok) h)
+becomes P o p hs is (Err x) e h ok = ok
+
+pub gone_again : {E : Type 0} (mid cs' : KeptCollections) (n : NsName) (r : Result (Unit {0}) E) → kept_at mid n ≡ None → OnErr r (cs' ≡ mid) → OnErr r (kept_at cs' n ≡ None)
+gone_again mid cs' n (Ok u) f err = err
+gone_again mid cs' n (Err x) f err = ap (λ (k : KeptCollections). kept_at k n) err ∙ f
+
+-- ---- indexes that were built
+
+pub built_in : {E : Type 0} (cs cs' : KeptCollections) (r : Rows) (n : NsName) (is : List Holding) (x : Result (Unit {0}) E) → AreKept cs r → KeptIn r.tables n is → OnOk x (kept_at cs' n ≡ Some is) → OnErr x (cs' ≡ cs) → (gs : List Holding) → kept_at cs' n ≡ Some gs → KeptIn r.tables n gs
+built_in cs cs' r n is (Ok u) kept built ok err gs at = subst (KeptIn r.tables n) (same_indexes is gs (sym ok ∙ at)) built
+built_in cs cs' r n is (Err e) kept built ok err gs at = kept n gs (ap (λ (k : KeptCollections). kept_at k n) (sym err) ∙ at)
+
+pub has_built : {E : Type 0} (cs : KeptCollections) (r : Rows) (n : NsName) (is : List Holding) (x : Result (Unit {0}) E) → OnOk x (kept_at cs n ≡ Some is) → OnOk x (HasIndexes cs n r)
+has_built cs r n is (Ok u) ok = inr (ap (λ (o : Option (List Holding)). is_some o) ok)
+has_built cs r n is (Err e) ok = ok
 
 -- ---- a document that is put
 

@@ -1,5 +1,5 @@
 -- What is kept of the indexes of collections, and when it is what an index over their documents has.
-use Rattle.std.specs.Prelude.{⊤, ◌≡◌, List, [], ◌∷◌, map as each, false, Option, Some, None}
+use Rattle.std.specs.Prelude.{⊤, ◌≡◌, ◌⊎◌, List, [], ◌∷◌, map as each, true, false, Option, Some, None, is_some}
 use Rattle.std.specs.BTreeMap.{is_at}
 use Rattle.std.specs.Map.{lookup}
 use Rattle.std.specs.FinMap as map
@@ -13,6 +13,7 @@ use Rattle.index_keys.specs.Definition.{plan_of}
 use Rattle.index_keys.specs.Keys.{Fields, Docs}
 use Rattle.index_build.specs.Owned.{Holding, build}
 use Rattle.history_model.specs.Indexes.{IndexesOf}
+use Rattle.history_model.specs.Refusals.{definitions_in}
 
 -- the documents of rows under their keys
 abbrev pub paired : List Row → Docs
@@ -44,6 +45,11 @@ pub record IsKept (t : Table) (hs : List Holding) : Type 0 where
   pub hold : IndexesOf t
   pub rising : Rising 0 t.rows
 
+-- the built indexes of a collection; none where it has no definitions
+abbrev pub AreBuilt : Option Table → Option (List Holding) → Type 0
+AreBuilt o None = definitions_in o ≡ []
+AreBuilt o (Some hs) = (t : Table) × (o ≡ Some t) × IsKept t hs
+
 -- indexes of collections, by the names of the collections
 abbrev pub KeptCollections : Type 0
 KeptCollections = List (NsName × List Holding)
@@ -55,6 +61,10 @@ kept_at cs n = lookup (is_at (namespace_cmp n)) cs
 -- what is kept of each collection are its built indexes
 abbrev pub AreKept : KeptCollections → Rows → Type 0
 AreKept cs r = (n : NsName) (hs : List Holding) → kept_at cs n ≡ Some hs → (t : Table) × (map.get r.tables n ≡ Some t) × IsKept t hs
+
+-- the indexes of a collection are kept, where it has any definitions
+abbrev pub HasIndexes : KeptCollections → NsName → Rows → Type 0
+HasIndexes cs n r = (definitions_in (map.get r.tables n) ≡ []) ⊎ (is_some (kept_at cs n) ≡ true)
 
 -- all other collections stand as before
 abbrev pub AreElsewhere : NsName → Rows → Rows → Type 0

@@ -1,5 +1,5 @@
 -- What becomes of the indexes of a collection as a document comes or goes.
-use Rattle.std.specs.Prelude.{⊤, ◌≡◌, List, [], ◌∷◌}
+use Rattle.std.specs.Prelude.{⊤, ◌≡◌, List, [], ◌∷◌, Option, Some, None}
 use Rattle.std.specs.FinMap as map
 use Rattle.state_model.specs.Keys.{Key}
 use Rattle.index_keys.specs.Keys.{Fields}
@@ -18,3 +18,10 @@ AreTakenOut k [] [] = ⊤
 AreTakenOut k [] (g ∷ gs) = ⊥
 AreTakenOut k (h ∷ hs) [] = ⊥
 AreTakenOut k (h ∷ hs) (g ∷ gs) = (g.plan ≡ h.plan) × (g.owned ≡ map.remove h.owned k) × AreTakenOut k hs gs
+
+-- a collection that is kept stays kept, and this becomes of its indexes
+abbrev pub Becomes : (List Holding → List Holding → Type 0) → Option (List Holding) → Option (List Holding) → Type 0
+Becomes P None None = ⊤
+Becomes P None (Some gs) = ⊥
+Becomes P (Some hs) None = ⊥
+Becomes P (Some hs) (Some gs) = P hs gs

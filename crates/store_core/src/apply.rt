@@ -42,7 +42,7 @@ impl Store {
     fn keep_indexes(&mut self, ns: &NsName)
         ensures { self.new ≡ self.old }
     {
-        self.indexes.keep(self.alloc, &self.state, ns);
+        let _ = self.indexes.keep(self.alloc, &self.state, ns);
     }
 
     fn apply_to_document(&mut self, cmd: &DocumentCommand) -> Result<u32, StoreFault>

@@ -25,7 +25,7 @@ impl Store {
         ensures err { OnErr result (self.new ≡ self.old) }
     {
         self.state.is_sound();
-        self.indexes.put(self.alloc, ns, &doc);
+        let _ = self.indexes.put(self.alloc, ns, &doc);
         match self.state.put(self.alloc, ns, doc) {
             Ok(()) => {
                 self.log.add(bytes);
@@ -66,7 +66,7 @@ impl Store {
         requires holds { IndexesHold (remove ns.now (key_of id.now) self.old.rows) }
         ensures { self.new ≡ record { rows = remove ns.now (key_of id.now) self.old.rows; log = logged bytes self.old.log } }
     {
-        self.indexes.remove(self.alloc, ns, id);
+        let _ = self.indexes.remove(self.alloc, ns, id);
         let _ = self.state.remove(ns, id);
         self.log.add(bytes);
     }

@@ -1,16 +1,16 @@
-use Rattle.std.proofs.Common.{◌≡◌, List, Some, None, false, Option, refl, sym, ◌∙◌, subst}
-use Rattle.std.specs.Prelude.{is_some}
-use Rattle.index_build.specs.Owned.{Holding}
-use Rattle.kept_indexes.specs.Kept.{IsKept}
-use Rattle.kept_indexes.proofs.Moving.{more_kept}
+use Rattle.std.proofs.Common.{◌≡◌, sym, ◌∙◌, inl, inr}
+use Rattle.kept_indexes.proofs.Moving.{more_kept, built_in, has_built}
 use Rattle.kept_indexes.proofs.indexes.KeptIndexes.keep.Goals as goal
 
-none_of : (o : Option (List Holding)) → is_some o ≡ false → o ≡ None
-none_of None e = refl
-none_of (Some hs) e = cc
+pub returns-then-has-clause-taken : goal.returns-then-has-clause-taken
+returns-then-has-clause-taken c = inr (sym c.has.ensures ∙ c.if-has.true)
 
-pub add-requires : goal.add-requires
-add-requires c = none_of _ (sym c.has.ensures ∙ c.if-has.false)
+pub returns-in_ok-indexes_of-in-None-clause-taken : goal.returns-in_ok-indexes_of-in-None-clause-taken
+returns-in_ok-indexes_of-in-None-clause-taken c = inl c.in-None.ensures
 
 pub returns-in-Some-clause-kept : goal.returns-in-Some-clause-kept
-returns-in-Some-clause-kept c = more_kept c.args.self.now c.add.new.self c.args.state.now c.args.ns.now c.requires.kept c.add.ensures.others (λ hs at. (let k = c.in-Some.ensures in (k.0, k.1, subst (λ (z : List Holding). IsKept k.0 z) (sym (c.add.ensures.added hs at)) k.2)))
+returns-in-Some-clause-kept c =
+    more_kept c.args.self.now c.add.new.self c.args.state.now c.args.ns.now c.requires.kept c.add.ensures.others (built_in c.args.self.now c.add.new.self c.args.state.now c.args.ns.now c.in-Some.indexes c.add.result c.requires.kept c.in-Some.ensures c.add.ensures.added c.add.ensures.err)
+
+pub returns-in-Some-clause-taken : goal.returns-in-Some-clause-taken
+returns-in-Some-clause-taken c = has_built c.add.new.self c.args.state.now c.args.ns.now c.in-Some.indexes c.add.result c.add.ensures.added
