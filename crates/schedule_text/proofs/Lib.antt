@@ -2,6 +2,7 @@ pub mod Cuts
 pub mod VerbWords
 pub mod LineEnds
 pub mod DrillRows
+pub mod Left
 pub mod ReadLoop
 pub mod Texts
 pub mod Names
@@ -10,3 +11,4 @@ pub mod Said
 pub mod SaidBack
 pub mod Steps
 pub mod StepsBack
+pub mod LineCaps

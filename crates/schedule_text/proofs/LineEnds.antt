@@ -1,12 +1,12 @@
 -- Lines and their ends, both ways.
-use Rattle.std.proofs.Common.{◌≡◌, ℕ, zero, suc, ◌+◌, ◌-◌, ◌<◌, ◌≤◌, true, false, List, [], ◌∷◌, ◌++◌, length, take, drop, refl, sym, ap, ◌∙◌, arith, inl, inr, subst, length-append, eqb-true, eq-eqb}
-use Rattle.std.specs.Prelude.{◌==◌, ◌≢◌, not, nat_lt, map, slice_index, position, Some, None}
+use Rattle.std.proofs.Common.{◌≡◌, ℕ, zero, suc, ◌+◌, ◌-◌, ◌<◌, ◌≤◌, true, false, List, [], ◌∷◌, ◌++◌, length, take, drop, refl, sym, ap, ◌∙◌, arith, inl, inr, subst, length-append, append_assoc, append-nil, eqb-true, eq-eqb}
+use Rattle.std.specs.Prelude.{◌==◌, ◌≢◌, Bool, if◌then◌else◌, not, nat_lt, map, slice_index, position, Some, None}
 use Rattle.std.specs.List.{position_or_len, before_first, after_first}
 use Rattle.std.proofs.lemmas.Bool.{cases_Bool}
 use Rattle.std.proofs.lemmas.Bool.Decides.{nat_tests}
 use Rattle.std.proofs.lemmas.List.{take_at, drop_at, get_or_at}
 use Rattle.std.proofs.lemmas.List.Folds.{list_all-append, length-prefix_len}
-use Rattle.schedule_text.specs.Lines.{onto_first, begun, whole_lines, front, ends_with, without_return, content}
+use Rattle.schedule_text.specs.Lines.{onto_first, begun, whole_lines, EndsAt, front, ends_with, without_return, content}
 use Rattle.schedule_text.specs.Words.{lacks}
 use Rattle.schedule_text.specs.Grammar.{AreLines, no_lines, last_line, ended, returned}
 use Rattle.schedule_text.proofs.Cuts.{is, both, not_true, none_first, lacks_before, sides}
@@ -166,29 +166,53 @@ position_is bytes at e =
       | inr t ↦ let f = rw t at e in absurd cc
     ]
 
-pub feed_within : (bytes : List ℕ) (at : ℕ) → position (is 10) bytes ≡ Some at → at < length bytes
-feed_within bytes at e = (position_is bytes at e).1
-
-pub feed_at : (bytes : List ℕ) (at : ℕ) → position (is 10) bytes ≡ Some at → whole_lines bytes ≡ take (at + 1) bytes ∷ whole_lines (drop (at + 1) bytes)
-feed_at bytes at e =
+pub ends_at : (bytes : List ℕ) (at : ℕ) → position (is 10) bytes ≡ Some at → EndsAt (at + 1) bytes
+ends_at bytes at e =
     let p = position_is bytes at e in
-    let w = before_first (is 10) bytes in
-    let rest = after_first (is 10) bytes in
-    let j : bytes ≡ (w ++ 10 ∷ []) ++ rest = sides 10 bytes (omega (arith, p.0, p.1)) ∙ append_one w 10 rest in
-    let n : length (w ++ 10 ∷ []) ≡ at + 1 = omega (arith, p.0, length-append w (10 ∷ []), length-prefix_len (λ b. not (is 10 b)) bytes) in
-    let t : take (at + 1) bytes ≡ w ++ 10 ∷ [] = ap (λ (x : List ℕ). take (at + 1) x) j ∙ take_at (w ++ 10 ∷ []) rest (at + 1) n in
-    let d : drop (at + 1) bytes ≡ rest = ap (λ (x : List ℕ). drop (at + 1) x) j ∙ drop_at (w ++ 10 ∷ []) rest (at + 1) n in
-    rw (t, d) (ap whole_lines (sides 10 bytes (omega (arith, p.0, p.1))) ∙ first_ended w rest (lacks_before 10 bytes))
+    record {
+      line = before_first (is 10) bytes;
+      rest = after_first (is 10) bytes;
+      joined = sides 10 bytes (omega (arith, p.0, p.1));
+      lacks_feed = lacks_before 10 bytes;
+      end_is = omega (arith, p.0, length-prefix_len (λ b. not (is 10 b)) bytes);
+    }
 
-pub no_feed : (bytes : List ℕ) → position (is 10) bytes ≡ None → 0 < length bytes → whole_lines bytes ≡ take (length bytes) bytes ∷ whole_lines (drop (length bytes) bytes)
-unfolding whole_lines
-no_feed bytes e h =
+pub ends_nowhere : (bytes : List ℕ) → position (is 10) bytes ≡ None → lacks 10 bytes ≡ true
+ends_nowhere bytes e =
     elim (cases_Bool (nat_lt (position_or_len (is 10) bytes) (length bytes))) [
       | inl t ↦ let f = rw t at e in absurd cc
-      | inr t ↦ let l : length bytes ≤ position_or_len (is 10) bytes = grind (arith, nat_tests) in
-          let some : bytes ≢ [] = λ x. let z : length bytes ≡ 0 = ap length x in omega (arith, z, h) in
-          rw (take_all bytes, drop_all bytes) (only_line bytes some (none_first 10 bytes l))
+      | inr t ↦ let l : length bytes ≤ position_or_len (is 10) bytes = grind (arith, nat_tests) in none_first 10 bytes l
     ]
+
+pub end_within : (end : ℕ) (bytes : List ℕ) → EndsAt end bytes → end ≤ length bytes
+end_within end bytes k = omega (arith, k.end_is, ap length k.joined, length-append k.line (10 ∷ k.rest))
+
+-- the line and what is behind it
+pub cut_line : (end : ℕ) (bytes : List ℕ) (k : EndsAt end bytes) → (take end bytes ≡ k.line ++ 10 ∷ []) × (drop end bytes ≡ k.rest)
+cut_line end bytes k =
+    let j : bytes ≡ (k.line ++ 10 ∷ []) ++ k.rest = k.joined ∙ append_one k.line 10 k.rest in
+    let n : length (k.line ++ 10 ∷ []) ≡ end = omega (arith, k.end_is, length-append k.line (10 ∷ [])) in
+    (ap (λ (x : List ℕ). take end x) j ∙ take_at (k.line ++ 10 ∷ []) k.rest end n, ap (λ (x : List ℕ). drop end x) j ∙ drop_at (k.line ++ 10 ∷ []) k.rest end n)
+
+-- whatever comes behind the bytes
+pub first_cut : (end : ℕ) (bytes more : List ℕ) → EndsAt end bytes → whole_lines (bytes ++ more) ≡ take end bytes ∷ whole_lines (drop end bytes ++ more)
+first_cut end bytes more k =
+    let c = cut_line end bytes k in
+    let j : bytes ++ more ≡ k.line ++ 10 ∷ (k.rest ++ more) = ap (λ (x : List ℕ). x ++ more) k.joined ∙ append_assoc k.line (10 ∷ k.rest) more in
+    ap whole_lines j
+    ∙ (first_ended k.line (k.rest ++ more) k.lacks_feed
+    ∙ (ap (λ (x : List ℕ). x ∷ whole_lines (k.rest ++ more)) (sym c.0) ∙ ap (λ (x : List ℕ). take end bytes ∷ whole_lines (x ++ more)) (sym c.1)))
+
+pub first_line_cut : (end : ℕ) (bytes : List ℕ) → EndsAt end bytes → whole_lines bytes ≡ take end bytes ∷ whole_lines (drop end bytes)
+first_line_cut end bytes k =
+    ap whole_lines (sym (append-nil bytes)) ∙ (first_cut end bytes [] k ∙ ap (λ (x : List ℕ). take end bytes ∷ whole_lines x) (append-nil (drop end bytes)))
+
+-- the only line
+pub no_feed : (bytes : List ℕ) → lacks 10 bytes ≡ true → 0 < length bytes → whole_lines bytes ≡ take (length bytes) bytes ∷ whole_lines (drop (length bytes) bytes)
+unfolding whole_lines
+no_feed bytes e h =
+    let some : bytes ≢ [] = λ x. let z : length bytes ≡ 0 = ap length x in omega (arith, z, h) in
+    rw (take_all bytes, drop_all bytes) (only_line bytes some e)
   where
     take_all : (xs : List ℕ) → take (length xs) xs ≡ xs
     take_all [] = refl
@@ -197,3 +221,29 @@ no_feed bytes e h =
     drop_all : (xs : List ℕ) → drop (length xs) xs ≡ []
     drop_all [] = refl
     drop_all (x ∷ xs) = drop_all xs
+
+-- a line that isn't ended begins the first line, whatever comes behind it
+pub record BeginsFirst (w text : List ℕ) : Type 0 where
+  pub more : List ℕ
+  pub others : List (List ℕ)
+  pub lines : whole_lines text ≡ (w ++ more) ∷ others
+
+onto : (b : ℕ) (lines : List (List ℕ)) → (more : List ℕ) × (others : List (List ℕ)) × (onto_first b lines ≡ (b ∷ more) ∷ others)
+onto b [] = ([], [], refl)
+onto b (line ∷ lines) = (line, lines, refl)
+
+begun_other : (b : ℕ) (lines : List (List ℕ)) → (b == 10) ≡ false → begun b lines ≡ onto_first b lines
+begun_other b lines e = ap (λ (x : Bool). if x then (b ∷ []) ∷ lines else onto_first b lines) e
+
+pub begins_first : (w more : List ℕ) → w ≢ [] → lacks 10 w ≡ true → BeginsFirst w (w ++ more)
+unfolding whole_lines
+begins_first [] more n e = absurd (n refl)
+begins_first (b ∷ []) more n e =
+    let f = not_true (b == 10) (both (not (b == 10)) true e).0 in
+    let o = onto b (whole_lines more) in
+    record { more = o.0; others = o.1; lines = begun_other b (whole_lines more) f ∙ o.2 }
+begins_first (b ∷ d ∷ w) more n e =
+    let p = both (not (b == 10)) (lacks 10 (d ∷ w)) e in
+    let f = not_true (b == 10) p.0 in
+    let k = begins_first (d ∷ w) more (λ x. cc) p.1 in
+    record { more = k.more; others = k.others; lines = ap (begun b) k.lines ∙ begun_other b ((d ∷ (w ++ k.more)) ∷ k.others) f }

@@ -12,12 +12,11 @@ use Rattle.schedule_model.specs.declared.line.Line.TheVariants as lines
 use Rattle.schedule_text.specs.declared.verb.Context.TheVariants as contexts
 use Rattle.schedule_text.specs.declared.statement.Statement.{Statement}
 use Rattle.schedule_text.specs.declared.statement.Statement.TheVariants as statements
-use Rattle.schedule_text.specs.declared.reader.Reader.{Reader}
 use Rattle.schedule_text.specs.declared.schedule.NumberedLine.{NumberedLine}
 use Rattle.schedule_text.specs.declared.schedule.Schedule.{Schedule}
 use Rattle.schedule_text.specs.Lines.{whole_lines, content}
 use Rattle.schedule_text.specs.Operands.{Read}
-use Rattle.schedule_text.specs.Reading.{said, is_passed, at_start, context_in, context_of, behind, is_past_limit, Bad, says, after_line, and_then, after_lines, read_schedule, schedule_of}
+use Rattle.schedule_text.specs.Reading.{Reader, said, is_passed, at_start, context_in, context_of, behind, is_past_limit, Bad, says, after_line, and_then, after_lines, read_schedule, schedule_of}
 use Rattle.schedule_text.specs.Grammar.{IsPassed, IsCap, numbered, at, AreSteps, ends, passed, outer, single, dumping, opens, inner, commits, aborts, IsRead, uncapped, skipped, capped, IsSchedule}
 use Rattle.schedule_text.proofs.Said.{Says, stands_in, IsSaid, is_said}
 use Rattle.schedule_text.proofs.LineEnds.{are_lines, total, total_is_length}
@@ -79,7 +78,7 @@ pub record IsBehind (r q : Reader) (n end : ℕ) (line : List ℕ) : Type 0 wher
   pub lines : n ≤ 1048576
   pub taken : (IsPassed (content line) × (q ≡ r)) ⊎ ((s : Statement) × (said (context_of r) (content line) ≡ Ok s) × (q ≡ behind (record r { begun = true }) n s))
 
-says_is : (r q : Reader) (n : ℕ) (o : Read Statement) → says r n o ≡ Ok q → (s : Statement) × (o ≡ Ok s) × (q ≡ behind (record r { begun = true }) n s)
+pub says_is : (r q : Reader) (n : ℕ) (o : Read Statement) → says r n o ≡ Ok q → (s : Statement) × (o ≡ Ok s) × (q ≡ behind (record r { begun = true }) n s)
 says_is r q n (Ok s) e = (s, refl, cc)
 says_is r q n (Err k) e = absurd cc
 

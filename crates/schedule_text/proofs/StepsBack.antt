@@ -13,13 +13,12 @@ use Rattle.schedule_text.specs.declared.verb.Context.{Context}
 use Rattle.schedule_text.specs.declared.verb.Context.TheVariants as contexts
 use Rattle.schedule_text.specs.declared.statement.Statement.{Statement}
 use Rattle.schedule_text.specs.declared.statement.Statement.TheVariants as statements
-use Rattle.schedule_text.specs.declared.reader.Reader.{Reader}
 use Rattle.schedule_text.specs.declared.schedule.NumberedLine.{NumberedLine}
 use Rattle.schedule_text.specs.declared.schedule.Schedule.{Schedule}
 use Rattle.schedule_text.specs.Lines.{whole_lines, content}
 use Rattle.schedule_text.specs.Words.{words_of}
 use Rattle.schedule_text.specs.Statements.{statement_of}
-use Rattle.schedule_text.specs.Reading.{text_in, said, is_passed, at_start, context_in, context_of, behind, is_past_limit, after_line, after_lines, schedule_of}
+use Rattle.schedule_text.specs.Reading.{Reader, text_in, said, is_passed, at_start, context_in, context_of, behind, is_past_limit, after_line, after_lines, schedule_of}
 use Rattle.schedule_text.specs.Grammar.{IsPassed, IsStep, numbered, at, AreSteps, ends, passed, outer, single, dumping, opens, inner, commits, aborts, IsRead, uncapped, skipped, capped, IsSchedule}
 use Rattle.schedule_text.proofs.VerbWords.{verb_name, IsSpelled, are_words}
 use Rattle.schedule_text.proofs.OperandTexts.{binds}

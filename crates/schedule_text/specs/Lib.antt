@@ -1,6 +1,6 @@
 pub mod DrillText
-pub mod Lines
 pub mod Words
+pub mod Lines
 pub mod Operands
 pub mod Statements
 pub mod Reading

@@ -1,5 +1,6 @@
 -- The lines of a text.
-use Rattle.std.specs.Prelude.{ℕ, ◌-◌, ◌==◌, Bool, List, [], ◌∷◌, length, take, slice_index, if◌then◌else◌}
+use Rattle.std.specs.Prelude.{◌≡◌, ℕ, ◌+◌, ◌-◌, ◌==◌, Bool, true, List, [], ◌∷◌, ◌++◌, length, take, slice_index, if◌then◌else◌}
+use Rattle.schedule_text.specs.Words.{lacks}
 
 -- a byte more before the first line
 abbrev pub onto_first : ℕ → List (List ℕ) → List (List ℕ)
@@ -13,6 +14,14 @@ begun b lines = if b == 10 then (b ∷ []) ∷ lines else onto_first b lines
 unfoldable pub whole_lines : List ℕ → List (List ℕ)
 whole_lines [] = []
 whole_lines (b ∷ bytes) = begun b (whole_lines bytes)
+
+-- the first line feed stands there, and so many bytes end with it
+pub record EndsAt (end : ℕ) (bytes : List ℕ) : Type 0 where
+  pub line : List ℕ
+  pub rest : List ℕ
+  pub joined : bytes ≡ line ++ 10 ∷ rest
+  pub lacks_feed : lacks 10 line ≡ true
+  pub end_is : end ≡ length line + 1
 
 abbrev pub front : List ℕ → List ℕ
 front bytes = take (length bytes - 1) bytes

@@ -1,5 +1,5 @@
 -- Reading a schedule line by line: the lines that it says, or the first line that is none of a schedule.
-use Rattle.std.specs.Prelude.{◌≡◌, ℕ, ◌+◌, ◌||◌, ◌==◌, Bool, true, false, List, [], ◌∷◌, ◌++◌, length, nat_lt, Option, Some, None, Result, Ok, Err, unwrap_or, if◌then◌else◌}
+use Rattle.std.specs.Prelude.{◌≡◌, ◌≤◌, ℕ, ◌+◌, ◌||◌, ◌==◌, Bool, true, false, List, [], ◌∷◌, ◌++◌, length, nat_lt, Option, Some, None, Result, Ok, Err, unwrap_or, if◌then◌else◌}
 use Rattle.std.specs.Str.{is_utf8}
 use Rattle.schedule_model.specs.declared.command.DocumentCommand.{DocumentCommand}
 use Rattle.schedule_model.specs.declared.command.Command.TheVariants as commands
@@ -13,7 +13,8 @@ use Rattle.schedule_text.specs.declared.verb.Context.{Context}
 use Rattle.schedule_text.specs.declared.verb.Context.TheVariants as contexts
 use Rattle.schedule_text.specs.declared.statement.Statement.{Statement}
 use Rattle.schedule_text.specs.declared.statement.Statement.TheVariants as statements
-use Rattle.schedule_text.specs.declared.reader.Reader.{Reader}
+use Rattle.schedule_text.specs.declared.reader.LineReader.{LineReader}
+use Rattle.schedule_text.specs.declared.schedule.NumberedLine.{NumberedLine}
 use Rattle.schedule_text.specs.declared.schedule.Schedule.{Schedule}
 use Rattle.schedule_text.specs.Lines.{whole_lines, content}
 use Rattle.schedule_text.specs.Words.{words_of}
@@ -36,6 +37,14 @@ is_passed [] = true
 is_passed (b ∷ bytes) = b == 35
 
 -- ---- what was read so far
+
+-- the cap, the lines that were said, and the commands of the open transaction; it has begun where a line isn't passed over
+pub record Reader : Type 0 where
+  pub begun : Bool
+  pub cap : ℕ
+  pub bytes : Option ℕ
+  pub lines : List NumberedLine
+  pub transaction : Option (List DocumentCommand)
 
 -- nothing: the cap is 1,000 entries where no line says it
 abbrev pub at_start : Reader
@@ -101,6 +110,34 @@ read_schedule (Err bad) = Err bad
 -- the schedule that a text is, or its first line that is none of a schedule
 unfoldable pub schedule_of : List ℕ → Result Schedule Bad
 schedule_of text = read_schedule (after_lines (whole_lines text) at_start 1 0)
+
+-- ---- line by line
+
+-- a reader of lines, behind these lines
+abbrev pub with_lines : LineReader → List NumberedLine → Reader
+with_lines r ls = record { begun = r.begun; cap = r.cap; bytes = r.bytes; lines = ls; transaction = r.transaction }
+
+-- a line adds no line of the schedule, or one
+abbrev pub added : Option NumberedLine → List NumberedLine
+added None = []
+added (Some line) = line ∷ []
+
+-- the schedule that the rest of a text is, from the line of this number on, behind so many bytes
+unfoldable pub schedule_left : LineReader → ℕ → ℕ → List ℕ → Result Schedule Bad
+schedule_left r number end rest = read_schedule (after_lines (whole_lines rest) (with_lines r []) number end)
+
+-- a schedule behind these lines
+abbrev pub behind_lines : List NumberedLine → Result Schedule Bad → Result Schedule Bad
+behind_lines before (Ok s) = Ok (record s { lines = before ++ s.lines })
+behind_lines before (Err bad) = Err bad
+
+-- The cap is said before all else: it stays as it is once a line was read that isn't passed over. It is within its bounds.
+pub record KeepsCap (old new : LineReader) : Type 0 where
+  pub begun : old.begun ≡ true → new.begun ≡ true
+  pub cap : old.begun ≡ true → new.cap ≡ old.cap
+  pub bytes : old.begun ≡ true → new.bytes ≡ old.bytes
+  pub least : 1 ≤ old.cap → 1 ≤ new.cap
+  pub most : old.cap ≤ 1000000 → new.cap ≤ 1000000
 
 -- What a function returned, seen by view, is what is read, unless memory ran out.
 abbrev pub Fails : {Y : Type 0} → LineFault → Result Y Bad → Type 0

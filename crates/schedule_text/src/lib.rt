@@ -16,5 +16,7 @@ mod words;
 pub use drill_text::drill;
 pub use fault::{LineFault, LineKind};
 pub use laws::{read_is_schedule, schedules_are_read};
+pub use lines::line_end;
 pub use queue::LineQueue;
+pub use reader::LineReader;
 pub use schedule::{NumberedLine, Schedule};

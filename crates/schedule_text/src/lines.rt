@@ -1,6 +1,7 @@
 //! The lines of a text.
-ghost use Rattle.std.specs.Prelude.{◌≡◌, ◌∷◌, ◌++◌, ◌==◌, ◌<◌, ◌≤◌, [], length, position, take, drop};
-ghost use Rattle.schedule_text.specs.Lines.{whole_lines, without_return, content};
+ghost use Rattle.std.specs.Prelude.{◌≡◌, ◌∷◌, ◌++◌, ◌==◌, ◌<◌, ◌≤◌, [], true, length, position, take, drop, MatchOption};
+ghost use Rattle.schedule_text.specs.Words.{lacks};
+ghost use Rattle.schedule_text.specs.Lines.{whole_lines, EndsAt, without_return, content};
 ghost use Rattle.schedule_text.specs.Reading.{is_passed};
 
 fn line_feed(bytes: &[u8]) -> Option<usize>
@@ -9,15 +10,25 @@ fn line_feed(bytes: &[u8]) -> Option<usize>
     bytes.iter().position(|b| *b == b'\n')
 }
 
+/// The place behind the first line feed, where there is one.
+pub fn line_end(bytes: &[u8]) -> Option<usize>
+    ensures { MatchOption result (lacks 10 bytes.now ≡ true) (λ end. EndsAt end bytes.now) }
+{
+    match line_feed(bytes) {
+        Some(at) => Some(at + 1),
+        None => None,
+    }
+}
+
 // The place behind the first line.
-fn line_end(bytes: &[u8]) -> usize
+fn first_end(bytes: &[u8]) -> usize
     requires { 0 < length bytes.now }
     ensures lines { whole_lines bytes.now ≡ take result bytes.now ∷ whole_lines (drop result bytes.now) }
     ensures within { result ≤ length bytes.now }
     ensures some { 0 < result }
 {
-    match line_feed(bytes) {
-        Some(at) => at + 1,
+    match line_end(bytes) {
+        Some(end) => end,
         None => bytes.len(),
     }
 }
@@ -29,7 +40,7 @@ pub(crate) fn first_line(bytes: &[u8]) -> (&[u8], &[u8])
     ensures joined { bytes.now ≡ result.0.now ++ result.1.now }
     ensures shorter { length result.1.now < length bytes.now }
 {
-    bytes.split_at(line_end(bytes))
+    bytes.split_at(first_end(bytes))
 }
 
 fn without_return(line: &[u8]) -> &[u8]

@@ -1,13 +1,13 @@
 //! Schedules, and reading them.
-ghost use Rattle.std.specs.Prelude.{◌≡◌};
-ghost use Rattle.schedule_text.specs.Reading.{Gives, schedule_of};
+ghost use Rattle.std.specs.Prelude.{◌≡◌, ◌++◌, OnOk};
+ghost use Rattle.schedule_text.specs.Reading.{Gives, added, schedule_of};
 
 use crate::fault::LineFault;
 use crate::lines::first_line;
-use crate::reader::Reader;
+use crate::reader::LineReader;
 use bson_value::List;
 use schedule_model::Line;
-use std::alloc::Global;
+use std::alloc::{AllocError, Global};
 
 /// A line of a schedule, and its number in the text, from 1.
 #[derive(Drop)]
@@ -27,25 +27,36 @@ pub struct Schedule {
     pub lines: List<NumberedLine>,
 }
 
+fn push(lines: &mut List<NumberedLine>, line: Option<NumberedLine>) -> Result<(), AllocError>
+    ensures { OnOk result (lines.new ≡ lines.old ++ added line) }
+{
+    match line {
+        Some(line) => lines.push(line),
+        None => Ok(()),
+    }
+}
+
 impl Schedule {
     /// The schedule that a text is, by the grammar of docs/schedule.md, or the first line that is none of
     /// a schedule.
     pub fn read(alloc: Global, text: &[u8]) -> Result<Schedule, LineFault>
         ensures { Gives (λ s. s) result (schedule_of text.now) }
     {
-        let mut reader = Reader::new(alloc);
+        let mut reader = LineReader::new();
+        let mut lines = List::new(alloc);
         let mut rest = text;
         let mut number: u32 = 1;
         'lines: while !rest.is_empty() {
             let (line, behind) = first_line(rest);
-            reader.line(alloc, number, text.len() - behind.len(), line)?;
+            let read = reader.line(alloc, number, text.len() - behind.len(), line)?;
+            push(&mut lines, read)?;
             number += 1;
             rest = behind;
         }
         Ok(Schedule {
             cap: reader.cap,
             bytes: reader.bytes,
-            lines: reader.lines,
+            lines,
         })
     }
 }

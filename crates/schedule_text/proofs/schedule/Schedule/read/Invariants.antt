@@ -1,12 +1,10 @@
-use Rattle.std.proofs.Common.{◌≡◌, ◌≤◌, length}
-use Rattle.schedule_text.specs.Lines.{whole_lines}
-use Rattle.schedule_text.specs.Reading.{at_start, after_lines}
-use Rattle.schedule_text.proofs.ReadLoop.{left}
+use Rattle.std.proofs.Common.{◌≡◌, ◌≤◌, ◌-◌, length}
+use Rattle.schedule_text.specs.Reading.{schedule_of, schedule_left, behind_lines}
 use Rattle.schedule_text.proofs.schedule.Schedule.read.Given as goal
 
 abbrev pub invariant-lines : goal.invariant-lines
 invariant-lines l = record {
-  read : left l.text l.rest l.reader l.number ≡ after_lines (whole_lines l.text) at_start 1 0;
+  read : schedule_of l.text ≡ behind_lines l.lines (schedule_left l.reader l.number (length l.text - length l.rest) l.rest);
   within : length l.rest ≤ length l.text;
   low : l.number ≤ 1048577;
 }
