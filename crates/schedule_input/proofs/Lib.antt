@@ -1,3 +1,4 @@
-pub mod Caps
 pub mod Cutting
-pub mod Texts
+pub mod Following
+pub mod Pieces
+pub mod TextLines

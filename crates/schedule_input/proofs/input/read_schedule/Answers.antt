@@ -1,19 +1,33 @@
-use Rattle.std.proofs.Common.{sym, ap, ◌∙◌, subst}
-use Rattle.schedule_text.specs.declared.fault.LineFault.{LineFault}
-use Rattle.schedule_text.specs.Reading.{schedule_of, Fails}
-use Rattle.schedule_input.proofs.Caps.{caps_are_in_range}
-use Rattle.schedule_input.proofs.Texts.{read_whole, read_bad}
+use Rattle.std.proofs.Common.{◌∷◌, [], List, sym, subst, arith}
+use Rattle.std.specs.Prelude.{Option, Ok}
+use Rattle.schedule_text.specs.declared.schedule.NumberedLine.{NumberedLine}
+use Rattle.schedule_input.specs.Inputs.{Gives, Led}
+use Rattle.schedule_input.proofs.Following.{led_first, led_more, starts_least, starts_most}
 use Rattle.schedule_input.proofs.input.read_schedule.Goals as goal
 
-pub returns-in-Ok-clause-reads : goal.returns-in-Ok-clause-reads
-returns-in-Ok-clause-reads g c =
-    read_whole (g.S.Source.end c.args.input.now).bytes (g.S.Source.end c.read_text.new.input).bytes c.in_ok-text.text.items c.in-Ok.schedule c.in_ok-text.ensures.text c.in_ok-text.ensures.end
-    (ap schedule_of (sym c.deref.ensures.value) ∙ c.in-Ok.ensures)
+pub lines-init : goal.lines-init
+lines-init g c =
+    let p = c.in_ok-read.read in
+    let e = c.in_ok-read.ensures in
+    let a = (g.S.Source.end c.args.input.now).bytes in
+    record {
+      led = subst (λ (ls : List NumberedLine). Led ls p a a) (sym c.new-lines.ensures) (led_first p a e.reader e.number e.end e.left);
+      least = starts_least p.reader e.reader;
+      most = starts_most p.reader e.reader;
+      later = omega arith;
+    }
 
-pub returns-in-Ok-clause-caps : goal.returns-in-Ok-clause-caps
-returns-in-Ok-clause-caps g c = caps_are_in_range c.read_is_schedule.ensures c.deref.result.now c.in-Ok.schedule c.in-Ok.ensures
-
-pub returns-clause-reads : goal.returns-clause-reads
-returns-clause-reads g c =
-    read_bad c.long_texts_are_cut.ensures (g.S.Source.end c.args.input.now).bytes (g.S.Source.end c.read_text.new.input).bytes c.in_ok-text.text.items (c.in-Err-Bad.line, c.in-Err-Bad.kind) c.in_ok-text.ensures.text c.in_ok-text.ensures.end
-    (ap schedule_of (sym c.deref.ensures.value) ∙ subst (λ (f : LineFault). Fails f (schedule_of c.deref.result.now)) c.in-Err-Bad.field-0-is c.in-Err-Bad.ensures)
+pub lines-preserved : goal.lines-preserved
+lines-preserved g c =
+    let p = c.lines.read in
+    let q = c.next.new.self in
+    let first = g.S.Source.end c.args.input.now in
+    let a = g.S.Source.end c.lines.input in
+    let b = g.S.Source.end c.next.new.input in
+    let gives = subst (λ (o : Option NumberedLine). Gives p q (Ok o) a b) c.in-Some.is c.in_ok-line.ensures.gives in
+    record {
+      led = subst (λ (ls : List NumberedLine). Led ls q first.bytes b.bytes) (sym c.in_ok-push.ensures.ok) (led_more c.lines.lines (c.in-Some.line ∷ []) p q first.bytes a.bytes b.bytes c.lines.invariant.led gives);
+      least = c.in_ok-line.ensures.keeps.least c.lines.invariant.least;
+      most = c.in_ok-line.ensures.keeps.most c.lines.invariant.most;
+      later = omega (arith, c.lines.invariant.later, c.next.ensures.later);
+    }
