@@ -79,6 +79,10 @@ pub becomes : {E : Type 0} (P : List Holding → List Holding → Type 0) (o p :
 becomes P o p hs is (Ok u) e h ok = subst (λ (x : Option (List Holding)). Becomes P x p) (sym e) (subst (Becomes P (Some hs)) (sym ok) h)
 becomes P o p hs is (Err x) e h ok = ok
 
+pub others_stay : {E : Type 0} (cs cs' : KeptCollections) (m : NsName) (r : Result (Unit {0}) E) → OnOk r ((n : NsName) → same_ns m n ≡ false → kept_at cs' n ≡ kept_at cs n) → OnErr r (cs' ≡ cs) → (n : NsName) → same_ns m n ≡ false → kept_at cs' n ≡ kept_at cs n
+others_stay cs cs' m (Ok u) ok err n e = ok n e
+others_stay cs cs' m (Err x) ok err n e = ap (λ (k : KeptCollections). kept_at k n) err
+
 pub gone_again : {E : Type 0} (mid cs' : KeptCollections) (n : NsName) (r : Result (Unit {0}) E) → kept_at mid n ≡ None → OnErr r (cs' ≡ mid) → OnErr r (kept_at cs' n ≡ None)
 gone_again mid cs' n (Ok u) f err = err
 gone_again mid cs' n (Err x) f err = ap (λ (k : KeptCollections). kept_at k n) err ∙ f

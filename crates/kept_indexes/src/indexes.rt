@@ -132,7 +132,7 @@ impl KeptIndexes {
     // Takes a collection in. Where there is no memory, nothing changes.
     fn add(&mut self, alloc: Global, ns: &NsName, indexes: List<Index>) -> Result<(), AllocError>
         ensures added { OnOk result (kept_at self.new ns.now ≡ Some indexes) }
-        ensures others { OnOk result ((n : Name) → same_ns ns.now n ≡ false → kept_at self.new n ≡ kept_at self.old n) }
+        ensures others { (n : Name) → same_ns ns.now n ≡ false → kept_at self.new n ≡ kept_at self.old n }
         ensures err { OnErr result (self.new ≡ self.old) }
     {
         set(&mut self.collections, alloc, ns, indexes)
