@@ -54,5 +54,5 @@ returns-then-is_empty c = no_definitions c.in-Some.defs.now (map.get c.args.stat
 
 pub returns-in-Some-indexes_over : goal.returns-in-Some-indexes_over
 returns-in-Some-indexes_over c =
-    are_built c.args.state.now c.args.ns.now c.as_slice.result.now (held c.as_slice-in_ok-docs.result.now) (map.get c.args.state.now.tables c.args.ns.now) c.in-Some-indexes_over.indexes c.requires.keyed c.is_sound.ensures c.requires.hold refl
+    are_built c.args.state.now c.args.ns.now c.as_slice.result.now (held c.as_slice-2.result.now) (map.get c.args.state.now.tables c.args.ns.now) c.in-Some-indexes_over.indexes c.requires.keyed c.is_sound.ensures c.requires.hold refl
     (ap Some c.as_slice.ensures ∙ c.in-Some.ensures.definitions) (ap held c.as_slice-2.ensures.value ∙ c.in_ok-docs.ensures) c.in-Some-indexes_over.ensures
