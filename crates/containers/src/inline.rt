@@ -1,5 +1,5 @@
 //! Bytes and strings that lie in the value itself.
-ghost use Rattle.std.specs.Prelude.{◌≡◌, ◌≤◌, length, take};
+ghost use Rattle.std.specs.Prelude.{◌≡◌, ◌≤◌, ◌+◌, ◌++◌, length, take};
 
 use std::marker::Model;
 use std::str;
@@ -37,6 +37,21 @@ impl InlineBytes {
         }
     }
 
+    /// Two runs of bytes, one behind the other.
+    pub(crate) fn joined(left: &[u8], right: &[u8]) -> InlineBytes
+        requires { length left.now + length right.now ≤ 22 }
+        ensures { result ≡ left.now ++ right.now }
+    {
+        let mut kept = [0; 22];
+        let len = left.len() + right.len();
+        kept[..left.len()].copy_from_slice(left);
+        kept[left.len()..len].copy_from_slice(right);
+        InlineBytes {
+            len: len as u8,
+            bytes: kept,
+        }
+    }
+
     pub(crate) fn as_slice(&self) -> &[u8]
         ensures { result.now ≡ self.now }
     {
@@ -67,6 +82,16 @@ impl InlineString {
     {
         InlineString {
             bytes: InlineBytes::of(text.as_bytes()),
+        }
+    }
+
+    /// Two texts, one behind the other.
+    pub(crate) fn joined(left: &str, right: &str) -> InlineString
+        requires { length left.now + length right.now ≤ 22 }
+        ensures { result ≡ left.now ++ right.now }
+    {
+        InlineString {
+            bytes: InlineBytes::joined(left.as_bytes(), right.as_bytes()),
         }
     }
 

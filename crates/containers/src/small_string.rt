@@ -91,9 +91,14 @@ impl SmallString {
         match &mut self.storage {
             Storage::Heap(text) => text.push_str(more),
             Storage::Inline(alloc, text) => {
+                if text.as_str().len() + more.len() <= INLINE_BYTES {
+                    let joined = InlineString::joined(text.as_str(), more);
+                    *text = joined;
+                    return Ok(());
+                }
                 let mut whole = String::from_str(*alloc, text.as_str())?;
                 whole.push_str(more)?;
-                *self = SmallString::from_string(*alloc, whole)?;
+                *self = SmallString::boxed(*alloc, whole)?;
                 Ok(())
             }
         }
