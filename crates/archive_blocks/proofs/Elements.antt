@@ -8,7 +8,8 @@ use Rattle.bson_value.specs.declared.value.Value.{Value, out-Value}
 use Rattle.bson_check.specs.Passing.{jump}
 use Rattle.bson_check.specs.Spells.{IsName, type_byte, AreBytesOf, IsDocument, IsArray}
 use Rattle.archive_blocks.specs.Found.{SpellFields, BeginsValue, Passes}
-use Rattle.archive_blocks.proofs.Jumps.{zero_at, front_of, behind_of, jump_over}
+use Rattle.archive_blocks.proofs.Jumps.{jump_over}
+use Rattle.bson_check.proofs.Again.{zero_at, front_of, behind_of}
 
 -- the first element, and the others
 record First (n tag : ℕ) (bytes : List ℕ) (fs : List (List ℕ × Value)) : Type 0 where

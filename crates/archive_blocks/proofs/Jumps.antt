@@ -1,38 +1,14 @@
 -- The bytes of a value are passed over by its type.
-use Rattle.std.proofs.Common.{◌≡◌, ℕ, zero, suc, ◌+◌, false, ltb, eqb, List, [], ◌∷◌, ◌++◌, length, take, drop, refl, sym, ap, ◌∙◌, append_assoc, add-zero, zero-add, arith}
-use Rattle.std.specs.Prelude.{◌==◌, Some, Contains}
-use Rattle.std.specs.List.{position_from}
-use Rattle.std.proofs.lemmas.List.{take_at, drop_at, length-append}
-use Rattle.std.proofs.lemmas.Bool.{le-ltb, ne_eqb}
+use Rattle.std.proofs.Common.{◌≡◌, ℕ, zero, suc, ◌+◌, false, ltb, List, [], ◌∷◌, ◌++◌, length, drop, refl, sym, ap, ◌∙◌, append_assoc, arith}
+use Rattle.std.specs.Prelude.{Contains}
+use Rattle.std.proofs.lemmas.List.{drop_at, length-append}
+use Rattle.std.proofs.lemmas.Bool.{le-ltb}
 use Rattle.bson_value.specs.declared.value.Value.{Value}
 use Rattle.bson_value.specs.declared.value.Value.TheOpen.{Value-F}
 use Rattle.bson_check.specs.Reading.{number}
 use Rattle.bson_check.specs.Passing.{count_of, past_zero, jump}
 use Rattle.bson_check.specs.Spells.{IsCount, IsString, IsFrame, type_byte, AreBytesOf, IsDocument, IsArray}
-use Rattle.bson_check.proofs.Again.{number_front}
-
-first_no_zero : (b : ℕ) (n : List ℕ) → (Contains (b ∷ n) 0 → ⊥) → b ≡ 0 → ⊥
-first_no_zero b n h e = h (0, omega arith, e)
-
-others_no_zero : (b : ℕ) (n : List ℕ) → (Contains (b ∷ n) 0 → ⊥) → Contains n 0 → ⊥
-others_no_zero b n h c = h (suc c.0, omega (arith, c.1), c.2)
-
-zero_behind : (n rest : List ℕ) (k : ℕ) → (Contains n 0 → ⊥) → position_from (λ b. b == 0) k (n ++ (0 ∷ rest)) ≡ Some (k + length n)
-zero_behind [] rest k h = rw add-zero refl
-zero_behind (b ∷ n) rest k h =
-    let other : eqb b 0 ≡ false = ne_eqb b 0 (first_no_zero b n h) in
-    let i : (k + 1) + length n ≡ k + suc (length n) = omega arith in
-    rw other (zero_behind n rest (k + 1) (others_no_zero b n h) ∙ ap Some i)
-
--- where the zero behind a name stands, and what lies on both sides
-pub zero_at : (n rest : List ℕ) → (Contains n 0 → ⊥) → position_from (λ b. b == 0) 0 ((n ++ 0 ∷ []) ++ rest) ≡ Some (length n)
-zero_at n rest h = ap (λ (x : List ℕ). position_from (λ b. b == 0) 0 x) (append_assoc n (0 ∷ []) rest) ∙ zero_behind n rest 0 h ∙ ap Some (zero-add (length n))
-
-pub front_of : (n rest : List ℕ) → take (length n) ((n ++ 0 ∷ []) ++ rest) ≡ n
-front_of n rest = ap (λ (x : List ℕ). take (length n) x) (append_assoc n (0 ∷ []) rest) ∙ take_at n (0 ∷ rest) (length n) refl
-
-pub behind_of : (n rest : List ℕ) → drop (length n + 1) ((n ++ 0 ∷ []) ++ rest) ≡ rest
-behind_of n rest = drop_at (n ++ 0 ∷ []) rest (length n + 1) (length-append n (0 ∷ []))
+use Rattle.bson_check.proofs.Again.{number_front, zero_at, behind_of}
 
 past_name : (n rest : List ℕ) → (Contains n 0 → ⊥) → past_zero ((n ++ 0 ∷ []) ++ rest) ≡ rest
 unfolding past_zero

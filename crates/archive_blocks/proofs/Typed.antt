@@ -13,13 +13,14 @@ use Rattle.bson_check.specs.Reading.{number, text_at}
 use Rattle.bson_check.specs.Spells.{IsCount, IsString, IsSigned, Spells, type_byte, AreBytesOf, IsDocument, IsArray}
 use Rattle.bson_check.specs.declared.fault.BsonFault.{BsonFault}
 use Rattle.bson_check.proofs.Whole.{read_is_spelled}
-use Rattle.bson_check.proofs.Cutting.{Begins, begins}
+use Rattle.bson_check.proofs.Cutting.{Begins}
 use Rattle.archive_format.specs.Shapes.{Shaped, wrong_type, ◌>>=◌, string_in, bool_in, long_in, string_of, long_of, bool_of, field, crc_told, db_name, collection_name, eof_name, crc_name, named, of_namespace, ns_head_of, Head}
 use Rattle.archive_format.specs.Archive.{fields_of, fault_in, head_in, head_fault_in}
 use Rattle.archive_blocks.specs.Found.{SpellFields, BeginsValue}
 use Rattle.archive_blocks.specs.Heads.{IsHeadFault, ReadsPart}
 use Rattle.archive_blocks.specs.declared.heads.HeadFault.{HeadFault}
 use Rattle.archive_blocks.specs.declared.heads.HeadFault.TheVariants as faults
+use Rattle.bson_check.proofs.Again.{text_again}
 
 -- ---- texts
 
@@ -40,12 +41,6 @@ text_begins end bytes count t rest w is utf8 =
 number_begins : (bytes count body rest : List ℕ) (n : ℕ) → Begins bytes count body rest → IsCount count n → number bytes ≡ n
 unfolding number
 number_begins bytes count body rest n w c = ap (λ (xs : List ℕ). from_le_bytes w32 xs) w.count_is ∙ c.value
-
-text_again : (end : ℕ) (b t rest : List ℕ) → IsString b t → text_at end (b ++ rest) ≡ Ok (t, rest)
-text_again end b t rest s =
-    let w = begins s.0 t rest s.1.four in
-    subst (λ (x : List ℕ). text_at end (x ++ rest) ≡ Ok (t, rest)) (sym s.3)
-    (text_begins end ((s.0 ++ t ++ 0 ∷ []) ++ rest) s.0 t rest w (number_begins ((s.0 ++ t ++ 0 ∷ []) ++ rest) s.0 t rest (length t + 1) w s.1) s.2)
 
 a_string : (n : ℕ) (b : List ℕ) (f : Value-F Value) → AreBytesOf (IsDocument n) (IsArray n) b f → 2 ≡ type_byte f → (t : List ℕ) × (string_in f ≡ Some t) × IsString b t
 a_string n b (Value-F.Str t) s k = (t, refl, s)

@@ -19,12 +19,13 @@ use Rattle.archive_format.specs.Laws.{HeadsAreRead, MetasAreRead, HeadersAreRead
 use Rattle.archive_content.specs.Blocks.{blocks_at}
 use Rattle.archive_content.specs.Pieces.{Piece, Block, End, documents_in, sum_on, piece_text, pieces_text, all_takings, IsNamed, AreBytes, AllBytes, MayFollow, AllMayFollow, IsHeader, IsMeta, AreMetas, meta_taking, archive_text}
 use Rattle.archive_content.specs.Laws.{WrittenIsContent}
-use Rattle.archive_content.proofs.Pieces.{entry, after_piece, items_of, after_pieces, all_items, HeadsRead, MayStand, AllMayStand, pieces_run, runs_append}
+use Rattle.archive_content.proofs.Pieces.{entry, after_piece, items_of, after_pieces, all_items, HeadsRead, MayStand, AllMayStand, pieces_run}
 use Rattle.archive_content.proofs.Seats.{Mirrors, mirrors_none, mirrors_more, Listed, listed_none, listed_more, all_closed}
+use Rattle.archive_format.proofs.Fold.{runs_append}
 
 -- ---- a document within the limits is an item
 
-count_is : (n : ℕ) → n < 2 ^ 32 → from_le_bytes w32 (count_bytes n) ≡ n
+pub count_is : (n : ℕ) → n < 2 ^ 32 → from_le_bytes w32 (count_bytes n) ≡ n
 count_is n l = from_le_bytes-to_le_bytes_4 (n % (2 ^ 32)) (omega arith) ∙ omega arith
 
 framed_length : (body : List ℕ) → length (framed body) ≡ length body + 5

@@ -1,20 +1,20 @@
 -- Any list of blocks and ends runs through the grammar, where none stands behind its namespace's end.
-use Rattle.std.proofs.Common.{◌≡◌, ℕ, suc, ◌+◌, ◌<◌, List, [], ◌∷◌, ◌++◌, map, length, Bool, true, false, cond, refl, sym, ap, ◌∙◌, subst, arith, append_assoc, Option, Some, None}
+use Rattle.std.proofs.Common.{◌≡◌, ℕ, suc, ◌+◌, ◌<◌, List, [], ◌∷◌, ◌++◌, map, length, Bool, true, false, cond, refl, sym, ap, ◌∙◌, subst, arith, Option, Some, None}
 use Rattle.std.specs.Prelude.{⊤, ℤ, pos, set, slice_get, flat_map, unwrap_or, ◌&&◌, ◌^◌, FitsSigned, if◌then◌else◌}
 use Rattle.std.specs.Int.{w64, cast_signed}
 use Rattle.std.specs.List.{position_from}
 use Rattle.std.specs.Str.{bytes_eq}
-use Rattle.std.proofs.lemmas.List.{length-append}
 use Rattle.std.proofs.lemmas.List.Concat.{flat_map-cons}
 use borrow.Author.Differences.{fits_in, read_fits}
 use Rattle.bson_value.specs.declared.namespace.NsName.{NsName}
 use Rattle.bson_value.proofs.Child.{same_name}
 use Rattle.archive_format.specs.Crc.{crc_start, crc_on, crc_end}
-use Rattle.archive_format.specs.Archive.{Item, document, terminator, text_of, Taking, Seen, Stage, Runs, same_ns, seat_of}
+use Rattle.archive_format.specs.Archive.{Item, document, terminator, text_of, Seen, Stage, Runs, same_ns, seat_of}
 use Rattle.archive_format.specs.Written.{head_text, joined}
 use Rattle.archive_content.specs.Blocks.{Seat, open_at, place_at, opened, seat, IsHead, blocks_at}
 use Rattle.archive_content.specs.Pieces.{Piece, Block, End, takings_of, all_takings, AreSound}
 use Rattle.archive_content.proofs.Blocks.{block_runs, end_runs}
+use Rattle.archive_format.proofs.Fold.{runs_append}
 
 -- ---- what a piece makes of the namespaces that were seen
 
@@ -122,19 +122,6 @@ piece_runs s at seen (Block n ds) h =
     block_runs (blocks_at s seen) at n (head_text n false (pos 0)) ds (entry n seen) refl (h.0 false (pos 0) zero_fits) h.2 (seat_stands n seen h.1)
 piece_runs s at seen (End n) h =
     end_runs (blocks_at s seen) at n (head_text n true (cast_signed w64 (crc_end (entry n seen).sum))) (entry n seen) refl h.2 (h.0 true (cast_signed w64 (crc_end (entry n seen).sum)) (said_fits (crc_end (entry n seen).sum) h.2)) (seat_stands n seen h.1)
-
-pub runs_append : (is js : List Item) (s : Stage) (at : ℕ) (t : Stage) (ts : List Taking) (u : Stage) (us : List Taking)
-    → Runs s at is t ts → Runs t (at + length (flat_map text_of is)) js u us → Runs s at (is ++ js) u (ts ++ us)
-runs_append [] js s at t ts u us r q =
-    let a : at + 0 ≡ at = omega arith in
-    let k = rw a at q in
-    subst (λ x. Runs s at js u (x ++ us)) (sym r.1) (subst (λ x. Runs x at js u us) r.0 k)
-runs_append (i ∷ is) js s at t ts u us r q =
-    let a : (at + length (text_of i)) + length (flat_map text_of is) ≡ at + length (flat_map text_of (i ∷ is)) =
-    omega (arith, ap length (flat_map-cons text_of i is), length-append (text_of i) (flat_map text_of is)) in
-    let q2 = rw (← a) at q in
-    let k = runs_append is js r.0 (at + length (text_of i)) t r.2 u us r.5 q2 in
-    (r.0, r.1, r.2 ++ us, r.3, r.4, k, ap (λ x. x ++ us) r.6 ∙ append_assoc r.1 r.2 us)
 
 pub pieces_run : PiecesRun
 pieces_run s at seen [] h = (refl, refl)

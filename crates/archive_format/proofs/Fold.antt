@@ -11,7 +11,7 @@ use Rattle.archive_format.specs.declared.place.Place.TheVariants.{Front, Header,
 use Rattle.archive_format.specs.Archive.{Item, Taking, text_of, Stage, Runs, Clean, Next, short, onward, wrong, next, limit, open_of, at_end, ending, closing, Ends, EndsOf, Content}
 use Rattle.archive_format.proofs.Fronts.{item_met, item_found, met_length}
 
-runs_append : (is js : List Item) (s : Stage) (at : ℕ) (t : Stage) (ts : List Taking) (u : Stage) (us : List Taking)
+pub runs_append : (is js : List Item) (s : Stage) (at : ℕ) (t : Stage) (ts : List Taking) (u : Stage) (us : List Taking)
     → Runs s at is t ts → Runs t (at + length (flat_map text_of is)) js u us → Runs s at (is ++ js) u (ts ++ us)
 runs_append [] js s at t ts u us r q =
     let a : at + 0 ≡ at = omega arith in

@@ -11,16 +11,12 @@ use Rattle.coll_state.specs.Rows.{Document as Fields, Row, Table, Rising, last_n
 use Rattle.coll_state.specs.Changes.{put_row, drop_row, put_table, drop_table, with_incarnation, put_index, take_index}
 use Rattle.copy_model.specs.Cursors.{Cursor}
 use Rattle.history_model.specs.Runs.{seen, looked}
-use Rattle.history_model.proofs.CopiedOut.{one_if, behind, behind_length}
+use Rattle.history_model.proofs.CopiedOut.{one_if, behind, behind_length, at_most_one}
 use Rattle.archive_length.proofs.Totals.{Weight}
 use Rattle.archive_length.proofs.Works.{IsWeight}
 use Rattle.coll_state.proofs.Sound.{some_table as same_table}
 
 -- ---- rows behind a number
-
-at_most_one : (b : Bool) → one_if b ≤ 1
-at_most_one true = omega arith
-at_most_one false = omega arith
 
 put_behind : (pos next : ℕ) (k : Key) (d : Fields) (rs : List Row) → behind pos (put_row next k d rs) ≤ behind pos rs + 1
 put_behind pos next k d [] = omega (arith, at_most_one (nat_lt pos next))

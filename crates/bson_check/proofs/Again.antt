@@ -120,26 +120,26 @@ binary_again end s count d rest c =
 
 -- ---- what a zero ends
 
-first_no_zero : (b : ℕ) (n : List ℕ) → (Contains (b ∷ n) 0 → ⊥) → b ≡ 0 → ⊥
+pub first_no_zero : (b : ℕ) (n : List ℕ) → (Contains (b ∷ n) 0 → ⊥) → b ≡ 0 → ⊥
 first_no_zero b n h e = h (0, omega arith, e)
 
-others_no_zero : (b : ℕ) (n : List ℕ) → (Contains (b ∷ n) 0 → ⊥) → Contains n 0 → ⊥
+pub others_no_zero : (b : ℕ) (n : List ℕ) → (Contains (b ∷ n) 0 → ⊥) → Contains n 0 → ⊥
 others_no_zero b n h c = h (suc c.0, omega (arith, c.1), c.2)
 
-zero_behind : (n rest : List ℕ) (k : ℕ) → (Contains n 0 → ⊥) → position_from (λ b. b == 0) k (n ++ (0 ∷ rest)) ≡ Some (k + length n)
+pub zero_behind : (n rest : List ℕ) (k : ℕ) → (Contains n 0 → ⊥) → position_from (λ b. b == 0) k (n ++ (0 ∷ rest)) ≡ Some (k + length n)
 zero_behind [] rest k h = rw add-zero refl
 zero_behind (b ∷ n) rest k h =
     let other : eqb b 0 ≡ false = ne_eqb b 0 (first_no_zero b n h) in
     let i : (k + 1) + length n ≡ k + suc (length n) = omega arith in
     rw other (zero_behind n rest (k + 1) (others_no_zero b n h) ∙ ap Some i)
 
-zero_at : (n rest : List ℕ) → (Contains n 0 → ⊥) → position_from (λ b. b == 0) 0 ((n ++ 0 ∷ []) ++ rest) ≡ Some (length n)
+pub zero_at : (n rest : List ℕ) → (Contains n 0 → ⊥) → position_from (λ b. b == 0) 0 ((n ++ 0 ∷ []) ++ rest) ≡ Some (length n)
 zero_at n rest h = ap (λ (x : List ℕ). position_from (λ b. b == 0) 0 x) (append_assoc n (0 ∷ []) rest) ∙ zero_behind n rest 0 h ∙ ap Some (zero-add (length n))
 
-front_of : (n rest : List ℕ) → take (length n) ((n ++ 0 ∷ []) ++ rest) ≡ n
+pub front_of : (n rest : List ℕ) → take (length n) ((n ++ 0 ∷ []) ++ rest) ≡ n
 front_of n rest = ap (λ (x : List ℕ). take (length n) x) (append_assoc n (0 ∷ []) rest) ∙ take_at n (0 ∷ rest) (length n) refl
 
-behind_of : (n rest : List ℕ) → drop (length n + 1) ((n ++ 0 ∷ []) ++ rest) ≡ rest
+pub behind_of : (n rest : List ℕ) → drop (length n + 1) ((n ++ 0 ∷ []) ++ rest) ≡ rest
 behind_of n rest = drop_at (n ++ 0 ∷ []) rest (length n + 1) (length-append n (0 ∷ []))
 
 cut_again : (at : ℕ) (n rest : List ℕ) → (Contains n 0 → ⊥) → cut_at at ((n ++ 0 ∷ []) ++ rest) ≡ Ok (n, rest)

@@ -42,7 +42,7 @@ spelled_once bytes fs gs s t =
 pub levels_needed : LevelsNeeded
 levels_needed n bytes fs = ((λ h. ((n, h), document_bound n bytes fs h)), (λ h. document_within h.0.0 n bytes fs h.0.1 h.1))
 
-no_fault : (r : Result (List (List ℕ × Value)) BsonFault) → result_err r ≡ None → (fs : List (List ℕ × Value)) × (r ≡ Ok fs)
+pub no_fault : (r : Result (List (List ℕ × Value)) BsonFault) → result_err r ≡ None → (fs : List (List ℕ × Value)) × (r ≡ Ok fs)
 no_fault (Ok fs) e = (fs, refl)
 no_fault (Err f) e = absurd cc
 

@@ -55,13 +55,13 @@ string_is t utf8 small = (count_bytes (length t + 1), count_is (length t + 1) (o
 
 -- ---- names of indexes
 
-no_zero : (ds : List ℕ) → AllDigits 10 ds → Contains ds 0 → ⊥
+pub no_zero : (ds : List ℕ) → AllDigits 10 ds → Contains ds 0 → ⊥
 no_zero [] h (k, lt, is) = omega (arith, lt)
 no_zero (zero ∷ ds) h (k, lt, is) = omega (arith, h.0)
 no_zero (suc c ∷ ds) h (zero, lt, is) = omega (arith, is)
 no_zero (suc c ∷ ds) h (suc k, lt, is) = no_zero ds h.1 (k, omega (arith, lt), is)
 
-index_no_zero : (k : ℕ) → k < 2 ^ 64 → Contains (decimal k) 0 → ⊥
+pub index_no_zero : (k : ℕ) → k < 2 ^ 64 → Contains (decimal k) 0 → ⊥
 index_no_zero k lt = no_zero (decimal k) (decimal_is_IsNumeral k lt).0.1
 
 -- ---- one level of a value

@@ -18,26 +18,26 @@ use Rattle.bson_value.specs.WellFormed.{AreBytes, AreWellFormedItems, IsWellForm
 use Rattle.bson_check.proofs.Height.{array_levels}
 use Rattle.bson_encode.proofs.Grammar.{spelling_out, tag_is, frame_is, framed_len, element_is, fields_spelled, value_spelled}
 
-word_back : (c : List ℕ) (n : ℕ) → AreBytes c → IsCount c n → c ≡ to_le_bytes w32 n
+pub word_back : (c : List ℕ) (n : ℕ) → AreBytes c → IsCount c n → c ≡ to_le_bytes w32 n
 word_back c n h k = sym (le_bytes_4 c n k.four h (sym k.value))
 
-count_back : (c : List ℕ) (n : ℕ) → AreBytes c → IsCount c n → c ≡ count_bytes n
+pub count_back : (c : List ℕ) (n : ℕ) → AreBytes c → IsCount c n → c ≡ count_bytes n
 count_back c n h k =
     let small : n % (2 ^ 32) ≡ n = omega (arith, word_small c n h k) in
     word_back c n h k ∙ ap (to_le_bytes w32) (sym small)
 
-string_back : (b t : List ℕ) → AreBytes b → IsString b t → b ≡ text_bytes t
+pub string_back : (b t : List ℕ) → AreBytes b → IsString b t → b ≡ text_bytes t
 string_back b t h s =
     let whole : b ≡ s.0 ++ (t ++ 0 ∷ []) = s.3 ∙ append_assoc s.0 t (0 ∷ []) in
     let count : AreBytes s.0 = front_bytes s.0 (t ++ 0 ∷ []) (subst AreBytes whole h) in
     s.3 ∙ ap (λ (c : List ℕ). c ++ t ++ 0 ∷ []) (count_back s.0 (length t + 1) count s.1)
 
-int_back : (b : List ℕ) (z : ℤ) → AreBytes b → IsSigned w32 b z → b ≡ to_le_bytes w32 (cast_unsigned w32 z)
+pub int_back : (b : List ℕ) (z : ℤ) → AreBytes b → IsSigned w32 b z → b ≡ to_le_bytes w32 (cast_unsigned w32 z)
 int_back b z h s =
     let small : from_le_bytes w32 b < 2 ^ 32 = omega (arith, h 0, h 1, h 2, h 3) in
     sym (le_bytes_4 b (from_le_bytes w32 b) s.count h refl) ∙ ap (to_le_bytes w32) (sym (of_z-to_z w32 (from_le_bytes w32 b) small) ∙ ap (cast_unsigned w32) s.value)
 
-long_back : (b : List ℕ) (z : ℤ) → AreBytes b → IsSigned w64 b z → b ≡ to_le_bytes w64 (cast_unsigned w64 z)
+pub long_back : (b : List ℕ) (z : ℤ) → AreBytes b → IsSigned w64 b z → b ≡ to_le_bytes w64 (cast_unsigned w64 z)
 long_back b z h s =
     let small : from_le_bytes w64 b < 2 ^ 64 = omega (arith, h 0, h 1, h 2, h 3, h 4, h 5, h 6, h 7) in
     sym (le_bytes_8 b (from_le_bytes w64 b) s.count h refl) ∙ ap (to_le_bytes w64) (sym (of_z-to_z w64 (from_le_bytes w64 b) small) ∙ ap (cast_unsigned w64) s.value)

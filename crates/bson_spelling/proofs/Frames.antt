@@ -1,8 +1,8 @@
 -- Bytes of a document, an array or a code with a scope, which are their spelling exactly where what they hold is.
-use Rattle.std.proofs.Common.{◌≡◌, ℕ, zero, suc, ◌+◌, ◌-◌, ◌%◌, ◌<◌, ◌≤◌, ◌^◌, List, [], ◌∷◌, ◌++◌, length, take, drop, map, refl, sym, ap, subst, ◌∙◌, append_assoc, ◌⊎◌, inl, inr, arith}
+use Rattle.std.proofs.Common.{◌≡◌, ℕ, suc, ◌+◌, ◌-◌, ◌%◌, ◌<◌, ◌≤◌, ◌^◌, List, [], ◌∷◌, ◌++◌, length, take, drop, map, refl, sym, ap, subst, ◌∙◌, append_assoc, ◌⊎◌, inl, inr, arith}
 use Rattle.std.specs.Prelude.{◌↔◌}
 use Rattle.std.specs.Int.{w32, to_le_bytes}
-use Rattle.std.proofs.lemmas.List.{take_at, take_all, drop_at, length-append, length-drop, append_cancel_left, append_cancel_right}
+use Rattle.std.proofs.lemmas.List.{take_all, drop_at, length-append, length-drop, append_cancel_left, append_cancel_right}
 use Rattle.std.proofs.lemmas.Nat.{le_bytes_4}
 use Rattle.bson_value.specs.Levels.{largest, levels_in, levels_of}
 use Rattle.bson_value.specs.Spelling.{Typed, count_bytes, framed, counted, text_bytes, document_text, elements_of, items_of, spelled, spelling, spelling_step}
@@ -12,14 +12,14 @@ use Rattle.bson_value.specs.WellFormed.{AreBytes}
 use Rattle.bson_value.proofs.Runs.{front_bytes, back_bytes}
 use Rattle.bson_check.specs.Spells.{IsCount, IsFrame, AreBytesOf, IsDocument, IsArray, type_byte, Spells}
 use Rattle.bson_check.proofs.Formed.{word_small}
-use Rattle.bson_check.proofs.Height.{levels_at, levels_out, object_levels, code_levels, array_levels}
-use Rattle.bson_encode.proofs.Grammar.{spelling_out, framed_len}
-use Rattle.bson_view.specs.Meaning.{AreValue, IsLeaf, is_value, value_in}
+use Rattle.bson_check.proofs.Height.{levels_at, levels_out, object_levels, code_levels}
+use Rattle.bson_encode.proofs.Grammar.{spelling_out}
+use Rattle.bson_view.specs.Meaning.{AreValue, IsLeaf, value_in}
 use Rattle.bson_view.specs.Parts.{Part, bytes_of, fields_of, values_of, AreElementsOf, AreScopedParts, AreNames}
-use Rattle.bson_view.proofs.Leaves.{string_back}
 use Rattle.bson_view.proofs.Meanings.{value_is}
 use Rattle.bson_view.proofs.Sizes.{frame_size}
-use Rattle.bson_spelling.specs.Spelled.{IsSpelled, AreSpelledFields, AreSpelledItems}
+use Rattle.bson_spelling.specs.Spelled.{AreSpelledFields, AreSpelledItems}
+use Rattle.bson_encode.proofs.Numbered.{string_back}
 
 count_back : (c : List ℕ) (n : ℕ) → AreBytes c → IsCount c n → c ≡ count_bytes n
 count_back c n h k =

@@ -1,27 +1,15 @@
 -- One element more.
-use Rattle.std.proofs.Common.{◌≡◌, ℕ, zero, suc, ◌+◌, ◌<◌, ◌≤◌, ◌^◌, List, [], ◌∷◌, ◌++◌, length, map, refl, sym, ap, subst, ◌∙◌, append_assoc, arith}
+use Rattle.std.proofs.Common.{◌≡◌, ℕ, ◌+◌, ◌<◌, ◌^◌, List, [], ◌∷◌, ◌++◌, length, map, refl, sym, ap, subst, ◌∙◌, append_assoc, arith}
 use Rattle.std.specs.Prelude.{◌↔◌, Contains, IsTrue, true, false}
 use Rattle.std.specs.Fmt.{decimal}
-use Rattle.std.specs.Str.Parse.{AllDigits}
-use Rattle.std.proofs.lemmas.Fmt.{decimal_is_IsNumeral}
 use Rattle.std.proofs.lemmas.List.{length-append, append_cancel_left}
-use Rattle.bson_value.specs.Levels.{largest, levels_in}
 use Rattle.bson_value.specs.Spelling.{element, elements_of, numbered, spelled, spelling, tag_of}
 use Rattle.bson_value.specs.WellFormed.{AreBytes}
-use Rattle.bson_encode.proofs.Grammar.{tag_is}
+use Rattle.bson_encode.proofs.Grammar.{tag_is, index_no_zero}
 use Rattle.bson_view.specs.Meaning.{AreValue}
-use Rattle.bson_view.specs.Parts.{Part, part_bytes, part_value, bytes_of, fields_of, values_of, AreNames}
+use Rattle.bson_view.specs.Parts.{Part, part_value, bytes_of, fields_of, values_of, AreNames}
 use Rattle.bson_spelling.specs.Spelled.{IsSpelled, AreSpelledFields, AreSpelledItems}
 use Rattle.bson_spelling.proofs.Fronts.{value_front, names_end}
-
-no_zero : (ds : List ℕ) → AllDigits 10 ds → Contains ds 0 → ⊥
-no_zero [] h (k, lt, is) = omega (arith, lt)
-no_zero (zero ∷ ds) h (k, lt, is) = omega (arith, h.0)
-no_zero (suc c ∷ ds) h (zero, lt, is) = omega (arith, is)
-no_zero (suc c ∷ ds) h (suc k, lt, is) = no_zero ds h.1 (k, omega (arith, lt), is)
-
-index_no_zero : (k : ℕ) → k < 2 ^ 64 → Contains (decimal k) 0 → ⊥
-index_no_zero k lt = no_zero (decimal k) (decimal_is_IsNumeral k lt).0.1
 
 tail_of : List ℕ → List ℕ
 tail_of [] = []

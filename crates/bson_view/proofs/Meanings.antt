@@ -1,7 +1,6 @@
 -- What is spelled is what the bytes mean.
 use Rattle.std.proofs.Common.{◌≡◌, ℕ, true, List, [], ◌∷◌, length, Result, Ok, Err, refl, sym, ap, subst, ◌∙◌, arith}
 use Rattle.std.specs.Prelude.{None, IsTrue, is_ok}
-use Rattle.std.specs.Result.{result_err}
 use Rattle.std.proofs.lemmas.List.{append-nil}
 use Rattle.bson_value.specs.declared.value.Value.{Value, out-Value}
 use Rattle.bson_check.specs.declared.fault.BsonFault.{BsonFault}
@@ -13,7 +12,7 @@ use Rattle.bson_check.specs.Faults.{first_fault}
 use Rattle.bson_check.proofs.Again.{CanRead, value_again, document_again, array_again, scoped_again}
 use Rattle.bson_check.proofs.Found.{value_found, document_found, array_found, scoped_found}
 use Rattle.bson_check.proofs.Height.{value_within, document_within, array_within}
-use Rattle.bson_check.proofs.Whole.{read_is_spelled, spelled_is_read}
+use Rattle.bson_check.proofs.Whole.{read_is_spelled, spelled_is_read, no_fault}
 use Rattle.bson_view.specs.Meaning.{read_document, read_fields, is_document, document_in, AreValue, read_value, ends, read_as, is_value, value_in}
 use Rattle.bson_view.proofs.Sizes.{value_size, document_size, array_size}
 
@@ -34,10 +33,6 @@ document_is bytes fs s = ap read_fields (document_read bytes fs s)
 pub document_checked : (bytes : List ℕ) (fs : List (List ℕ × Value)) → Spells bytes fs → IsTrue (is_document bytes)
 unfolding is_document
 document_checked bytes fs s = ap is_ok (document_read bytes fs s)
-
-no_fault : (r : Result (List (List ℕ × Value)) BsonFault) → result_err r ≡ None → (fs : List (List ℕ × Value)) × (r ≡ Ok fs)
-no_fault (Ok fs) e = (fs, refl)
-no_fault (Err f) e = absurd cc
 
 ok_of : (r : Result (List (List ℕ × Value)) BsonFault) → is_ok r ≡ true → r ≡ Ok (read_fields r)
 ok_of (Ok fs) e = refl

@@ -8,8 +8,9 @@ use Rattle.bson_check.specs.Passing.{upto_zero, past_zero, jump}
 use Rattle.bson_check.specs.Spells.{type_byte, AreFields, AreItems}
 use Rattle.bson_view.specs.Parts.{Part, part_bytes, values_of, fields_of, bytes_of, AreNames, first_part, parts_in, parts_of, SpellsValue}
 use Rattle.bson_view.specs.Meaning.{value_in}
-use Rattle.bson_view.proofs.Jumps.{zero_at, front_of, past_name, jump_over}
+use Rattle.bson_view.proofs.Jumps.{past_name, jump_over}
 use Rattle.bson_view.proofs.Meanings.{value_is}
+use Rattle.bson_check.proofs.Again.{zero_at, front_of}
 
 -- the first element, and the others
 pub record First (n tag : ℕ) (bytes : List ℕ) (vs : List Value) : Type 0 where

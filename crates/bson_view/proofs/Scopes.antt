@@ -10,10 +10,10 @@ use Rattle.bson_value.specs.WellFormed.{AreBytes}
 use Rattle.bson_view.specs.Meaning.{is_value, value_in}
 use Rattle.bson_view.specs.Parts.{bytes_of, elements_in, AreScopedParts, HasElements}
 use Rattle.bson_view.proofs.Jumps.{jump_over}
-use Rattle.bson_view.proofs.Leaves.{string_back}
 use Rattle.bson_view.proofs.Meanings.{checked_value}
 use Rattle.bson_view.proofs.Sizes.{frame_size}
 use Rattle.bson_view.proofs.Bodies.{body_by, of_fields, fields_there}
+use Rattle.bson_encode.proofs.Numbered.{string_back}
 
 -- what stands behind the total, and what behind the text
 abbrev pub behind_total : List ℕ → List ℕ

@@ -22,7 +22,7 @@ suffix_drop zero es = ([], refl)
 suffix_drop (suc n) [] = ([], refl)
 suffix_drop (suc n) (e ∷ es) = let s = suffix_drop n es in (e ∷ s.0, ap (λ (l : List Entry). e ∷ l) s.1)
 
-tail_is : (x y : Entry) (xs ys : List Entry) → x ∷ xs ≡ y ∷ ys → xs ≡ ys
+pub tail_is : (x y : Entry) (xs ys : List Entry) → x ∷ xs ≡ y ∷ ys → xs ≡ ys
 tail_is x y xs ys p = cc
 
 -- an end that is short enough is one of what is left behind the first n

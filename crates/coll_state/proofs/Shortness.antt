@@ -10,11 +10,11 @@ both : (a b : Bool) → (a && b) ≡ true → (a ≡ true) × (b ≡ true)
 both true b e = (refl, e)
 both false b e = absurd cc
 
-join : (a b : Bool) → a ≡ true → b ≡ true → (a && b) ≡ true
+pub join : (a b : Bool) → a ≡ true → b ≡ true → (a && b) ≡ true
 join true b e f = f
 join false b e f = e
 
-at_most : (m n : ℕ) → nat_le m n ≡ true → m ≤ n
+pub at_most : (m n : ℕ) → nat_le m n ≡ true → m ≤ n
 at_most m n e = grind arith
 
 at_most_true : (m n : ℕ) → m ≤ n → nat_le m n ≡ true

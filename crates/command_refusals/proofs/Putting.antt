@@ -31,7 +31,7 @@ all_rows n None h l = refl
 all_rows n (Some t) h l = scan_all 0 0 n t.rows (omega arith) (h t refl) l
 
 -- what looks show of rows
-looked_rows : (rs : List Row) → looked_at (looks rs) ≡ documents rs
+pub looked_rows : (rs : List Row) → looked_at (looks rs) ≡ documents rs
 looked_rows [] = refl
 looked_rows (r ∷ rs) = ap (λ (ds : List Document). r.document ∷ ds) (looked_rows rs)
 

@@ -30,17 +30,17 @@ use Rattle.command_refusals.specs.declared.clashes.Verdict.TheVariants as verdic
 
 -- ---- tests of lists
 
-or_false : (b : Bool) → (b || false) ≡ b
+pub or_false : (b : Bool) → (b || false) ≡ b
 or_false true = refl
 or_false false = refl
 
-or_swap : (a b c d : Bool) → ((a || b) || (c || d)) ≡ ((a || c) || (b || d))
+pub or_swap : (a b c d : Bool) → ((a || b) || (c || d)) ≡ ((a || c) || (b || d))
 or_swap true b c d = refl
 or_swap false true true d = refl
 or_swap false true false d = refl
 or_swap false false c d = refl
 
-any_or : {A : Type 0} (p q : A → Bool) (xs : List A) → list_any (λ x. p x || q x) xs ≡ (list_any p xs || list_any q xs)
+pub any_or : {A : Type 0} (p q : A → Bool) (xs : List A) → list_any (λ x. p x || q x) xs ≡ (list_any p xs || list_any q xs)
 any_or p q [] = refl
 any_or p q (x ∷ xs) = ap (λ (b : Bool). (p x || q x) || b) (any_or p q xs) ∙ or_swap (p x) (q x) (list_any p xs) (list_any q xs)
 
@@ -48,11 +48,11 @@ pub any_same : {A : Type 0} (p q : A → Bool) → ((x : A) → p x ≡ q x) →
 any_same p q h [] = refl
 any_same p q h (x ∷ xs) = λ i. h x i || any_same p q h xs i
 
-any_none : {A : Type 0} (p : A → Bool) → ((x : A) → p x ≡ false) → (xs : List A) → list_any p xs ≡ false
+pub any_none : {A : Type 0} (p : A → Bool) → ((x : A) → p x ≡ false) → (xs : List A) → list_any p xs ≡ false
 any_none p h [] = refl
 any_none p h (x ∷ xs) = ap (λ (b : Bool). b || list_any p xs) (h x) ∙ any_none p h xs
 
-any_swap : {A B : Type 0} (r : A → B → Bool) (xs : List A) (ys : List B) → list_any (λ x. list_any (r x) ys) xs ≡ list_any (λ y. list_any (λ x. r x y) xs) ys
+pub any_swap : {A B : Type 0} (r : A → B → Bool) (xs : List A) (ys : List B) → list_any (λ x. list_any (r x) ys) xs ≡ list_any (λ y. list_any (λ x. r x y) xs) ys
 any_swap r [] ys = sym (any_none (λ y. false) (λ y. refl) ys)
 any_swap r (x ∷ xs) ys = ap (λ (b : Bool). list_any (r x) ys || b) (any_swap r xs ys) ∙ sym (any_or (r x) (λ y. list_any (λ z. r z y) xs) ys)
 
@@ -82,7 +82,7 @@ some_later : {A : Type 0} (x : A) (o : Option A) (later : Option (A × A)) → i
 some_later x (Some y) later = refl
 some_later x None later = refl
 
-some_where : {A : Type 0} (p : A → Bool) (xs : List A) → is_some (first_where p xs) ≡ list_any p xs
+pub some_where : {A : Type 0} (p : A → Bool) (xs : List A) → is_some (first_where p xs) ≡ list_any p xs
 some_where p [] = refl
 some_where p (x ∷ xs) = by (p x) (some_where p xs)
   where

@@ -33,7 +33,7 @@ use Rattle.entry_model.specs.Touches.{IsWritable, AreEnough, Writable, WrittenIs
 use Rattle.entry_model.specs.Spelling.{level_limit}
 use Rattle.delta_laws.specs.Laws.{DeltaIsRead}
 
-mapped_is : {A B : Type 0} (f : A → B) (xs : List A) → mapped f xs ≡ map f xs
+pub mapped_is : {A B : Type 0} (f : A → B) (xs : List A) → mapped f xs ≡ map f xs
 mapped_is f [] = refl
 mapped_is f (x ∷ xs) = ap (λ (z : List _). f x ∷ z) (mapped_is f xs)
 

@@ -134,7 +134,7 @@ module _ (g : Value → Value) where
 
 -- ---- a value that is set
 
-set_here : (p : Part) (a c : Value) → leads p (shape c) ≡ true → set_by leads p a c ≡ put c (key_of p) a
+pub set_here : (p : Part) (a c : Value) → leads p (shape c) ≡ true → set_by leads p a c ≡ put c (key_of p) a
 set_here p a c t = rw t refl
 
 set_kept : (p : Part) (a c : Value) → HasRoomFor p c → (q : Place) → from_key (key_of p) q ≡ false → look (Some (set_by leads p a c)) q ≡ look (Some c) q

@@ -179,7 +179,7 @@ is_unset_at parts ws p v w s e =
 
 -- ---- a new length
 
-resized : (n : ℕ) (vs : List Value) → resize_here n (Array vs) ≡ Array (sized n vs)
+pub resized : (n : ℕ) (vs : List Value) → resize_here n (Array vs) ≡ Array (sized n vs)
 resized n vs = sym (resized_array n vs (sized n vs) refl)
 
 sized_here : (m n : ℕ) (vs : List Value) → m ≤ n → m ≤ length vs → (q : Place) → from_index m q ≡ false → look (Some (resize_here n (Array vs))) q ≡ look (Some (Array vs)) q

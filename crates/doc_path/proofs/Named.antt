@@ -25,7 +25,7 @@ stops faults.EmptyPart o later f = rw f refl
 stops faults.Dollar o later f = rw f refl
 stops faults.Zero o later f = rw f refl
 
-some_parts : (text : List ℕ) → parts_of text ≡ [] → ⊥
+pub some_parts : (text : List ℕ) → parts_of text ≡ [] → ⊥
 some_parts text e =
     let l = length-slice_split (λ (b : ℕ). b == 46) text in
     let n : length (parts_of text) ≡ 0 = ap length e in

@@ -5,7 +5,6 @@ use Rattle.std.specs.Char.{is_ascii_digit}
 use Rattle.std.specs.Fmt.{decimal}
 use Rattle.std.specs.List.{list_all, list_any}
 use Rattle.std.specs.Str.{is_utf8}
-use Rattle.std.specs.Str.Parse.{digits_value, signed_digits_value}
 use Rattle.std.proofs.lemmas.Bool.{and_parts, ltb-true, lt-ltb, leb-true, ne_eqb}
 use Rattle.std.proofs.lemmas.Fmt.{decimal_is_IsNumeral, decimal_digit, first_decimal, length-decimal-le}
 use Rattle.std.proofs.lemmas.List.{length-append}
@@ -15,7 +14,7 @@ use Rattle.json_tree.specs.declared.tree.Tree.TheVariants as trees
 use Rattle.extjson.specs.Numbers.{is_natural, is_whole, whole_number, in_range}
 use Rattle.extjson.specs.Values.{without_zero, plain_value, whole_value, value_of}
 use Rattle.extjson.proofs.Formed.{ascii}
-use Rattle.extjson.proofs.ReadBack.{natural_decimal}
+use Rattle.extjson.proofs.ReadBack.{natural_decimal, plain_number}
 use Rattle.extjson.proofs.TreeParts.{value_number}
 use Rattle.extjson.proofs.Wholes.{natural_digits, range_some}
 use Rattle.schedule_text.specs.Words.{lacks}
@@ -113,9 +112,6 @@ whole_plain : (ds : List ℕ) → is_natural ds ≡ true → get_or ds 0 0 ≢ 4
 unfolding is_whole is_natural
 whole_plain [] h ne = h
 whole_plain (c ∷ cs) h ne = rw (ne_eqb c 45 ne) h
-
-plain_number : (ds : List ℕ) → get_or ds 0 0 ≢ 45 → get_or ds 0 0 ≢ 43 → signed_digits_value 10 ds ≡ pos (digits_value 10 ds)
-plain_number ds minus plus = rw (ne_eqb (get_or ds 0 0) 45 minus, ne_eqb (get_or ds 0 0) 43 plus) refl
 
 number_is : (n : ℕ) → n ≤ 100000 → whole_number (decimal n) ≡ pos n
 unfolding whole_number

@@ -1,17 +1,17 @@
 -- The entries of a map are in order, each name once.
-use Rattle.std.proofs.Common.{◌≡◌, List, [], ◌∷◌, ◌++◌, Bool, true, false, cond, refl, sym, ap, ◌∙◌, subst, Option, Some, None, inl, inr}
-use Rattle.std.specs.Prelude.{⊤, ◌⊎◌, ◌&&◌, T}
+use Rattle.std.proofs.Common.{◌≡◌, List, [], ◌∷◌, Bool, true, false, cond, refl, sym, ap, ◌∙◌, subst, Option, Some, None}
+use Rattle.std.specs.Prelude.{⊤, ◌&&◌, T}
 use Rattle.std.specs.Ordering.{is_lt, is_eq, eq_by_cmp}
 use Rattle.std.specs.FinMap as map
 use Rattle.std.specs.FinMap.Entries.{below_all, is_sorted}
 use Rattle.std.specs.declared.cmp.Ordering.{Ordering}
 use Rattle.std.specs.declared.cmp.Ordering.TheVariants.{Less, Equal, Greater}
 
-first_of : (a b : Bool) → T (a && b) → T a
+pub first_of : (a b : Bool) → T (a && b) → T a
 first_of true b p = tt
 first_of false b p = p
 
-second_of : (a b : Bool) → T (a && b) → T b
+pub second_of : (a b : Bool) → T (a && b) → T b
 second_of true b p = p
 second_of false b p = absurd p
 

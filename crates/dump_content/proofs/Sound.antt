@@ -1,36 +1,31 @@
 -- The texts in the pieces of a dump are documents, of bytes.
-use Rattle.std.proofs.Common.{◌≡◌, ℕ, ◌+◌, ◌≤◌, ◌<◌, ◌%◌, ◌^◌, List, [], ◌∷◌, ◌++◌, length, take, Bool, true, false, refl, sym, ap, ◌∙◌, subst, arith, append_assoc, Option, Some, None}
-use Rattle.std.specs.Prelude.{⊤, ◌&&◌, map as each, filter, flat_map, pos, Ok, if◌then◌else◌}
-use Rattle.std.specs.Int.{w32, from_le_bytes}
+use Rattle.std.proofs.Common.{◌≡◌, ℕ, ◌+◌, ◌≤◌, List, [], ◌∷◌, ◌++◌, length, Bool, true, false, sym, ap, ◌∙◌, arith, None}
+use Rattle.std.specs.Prelude.{⊤, ◌&&◌, map as each, filter, pos, Ok, if◌then◌else◌}
 use Rattle.std.specs.Result.{result_err}
 use Rattle.std.proofs.lemmas.List.{length-append}
-use Rattle.std.proofs.lemmas.Nat.{from_le_bytes-to_le_bytes_4}
 use Rattle.bson_value.specs.declared.value.Ts.{Ts}
-use Rattle.bson_value.specs.Spelling.{count_bytes, framed, elements_of, document_text}
-use Rattle.bson_value.proofs.Sizes.{document_length}
+use Rattle.bson_value.specs.Spelling.{framed, elements_of, document_text}
 use Rattle.bson_value.specs.declared.namespace.NsName.{NsName}
 use Rattle.coll_state.specs.Rows.{Document, Row, Rows}
 use Rattle.archive_format.specs.Archive.{IsItem, document, number, fields_of, fault_in}
-use Rattle.archive_format.specs.Written.{joined, head_text, block_text, end_text}
+use Rattle.archive_format.specs.Written.{joined, head_text, block_text}
 use Rattle.archive_format.specs.Archive.{stop_bytes}
-use Rattle.archive_content.specs.Pieces.{Piece, Block, End, AreSound, AreBytes, AllBytes, MayFollow, AllMayFollow, piece_text, pieces_text}
+use Rattle.archive_content.specs.Pieces.{Piece, Block, End, AreSound, AreBytes, AllBytes, AllMayFollow, piece_text, pieces_text}
 use Rattle.entry_model.specs.Spelling.{entry_fields}
 use Rattle.entry_documents.specs.Laws.{FitsStamp}
 use Rattle.history_model.specs.Entries.{OplogEntry, entry_bytes, entry_at}
 use Rattle.history_model.specs.Stages.{Made, entry_of, not_later}
-use Rattle.history_model.specs.Runs.{Step, Documents, Entries, Run, first_entry, entries_from, window}
+use Rattle.history_model.specs.Runs.{Step, Documents, Entries, Run, entries_from, window}
 use Rattle.history_model.specs.Histories.{sent_in}
 use Rattle.history_model.specs.Recordings.{EachMade}
 use Rattle.dump_model.specs.Archives.{oplog, block_of, end_of, document_texts, pieces_of, all_pieces}
 use Rattle.recorded_entries.specs.Good.{IsGood}
 use Rattle.recorded_entries.specs.Kept.{AreKeptRows}
 use Rattle.entry_bytes.proofs.Decoded.{documents_are_read, entries_are_read, entry_short}
-use Rattle.dump_steps.specs.Steps.{AreStepsOf, MayStand, AllStand}
+use Rattle.dump_steps.specs.Steps.{AreStepsOf, AllStand}
+use Rattle.archive_content.proofs.Contents.{count_is}
 
 -- ---- a document within the limits is an item
-
-count_is : (n : ℕ) → n < 2 ^ 32 → from_le_bytes w32 (count_bytes n) ≡ n
-count_is n l = from_le_bytes-to_le_bytes_4 (n % (2 ^ 32)) (omega arith) ∙ omega arith
 
 framed_item : (body : List ℕ) → length (framed body) ≤ 16793600 → IsItem (document (framed body))
 unfolding number

@@ -30,7 +30,7 @@ use Rattle.dump_run.proofs.Reading.{closed_line}
 abbrev pub Grows : Run → Run → Type 0
 Grows r s = (text : List ℕ) × (steps_text s.steps ≡ steps_text r.steps ++ text)
 
-grows_same : (r s : Run) → s.steps ≡ r.steps → Grows r s
+pub grows_same : (r s : Run) → s.steps ≡ r.steps → Grows r s
 grows_same r s e = ([], ap steps_text e ∙ sym (append-nil (steps_text r.steps)))
 
 grows_push : (r s : Run) (x : Step) → s.steps ≡ r.steps ++ (x ∷ []) → Grows r s

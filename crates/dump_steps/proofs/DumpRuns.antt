@@ -1,7 +1,6 @@
 -- The steps of a dump, at each moment of a run.
 use Rattle.std.proofs.Common.{◌≡◌, ◌≢◌, ℕ, zero, suc, List, [], ◌∷◌, ◌++◌, length, Bool, true, false, not, refl, sym, ap, ◌∙◌, subst, append_assoc, Option, Some, None, Result, Ok, Err, inl, inr}
 use Rattle.std.specs.Prelude.{⊤, ◌⊎◌, ◌||◌, is_some, nat_le, ◌+◌, take, drop, filter}
-use Rattle.std.specs.List.{list_any}
 use Rattle.std.specs.FinMap as map
 use Rattle.bson_value.specs.declared.namespace.NsName.{NsName}
 use Rattle.bson_value.specs.declared.value.Ts.{Ts}
@@ -11,7 +10,7 @@ use Rattle.entry_model.proofs.Touched.{written_is_read, written_is_document}
 use Rattle.delta_laws.proofs.Deltas.{delta_read}
 use Rattle.update_records.specs.Laws.{UpdatesRecord}
 use Rattle.update_records.proofs.Records.{updates_record}
-use Rattle.coll_state.specs.Rows.{Row, Rows, state_of}
+use Rattle.coll_state.specs.Rows.{Rows, state_of}
 use Rattle.copy_model.specs.Cursors.{Cursor}
 use Rattle.copy_model.specs.Copies.{cursors_of}
 use Rattle.schedule_model.specs.declared.command.DocumentCommand.{DocumentCommand}
@@ -21,19 +20,18 @@ use Rattle.schedule_model.specs.declared.command.Command.TheVariants as commands
 use Rattle.schedule_model.specs.declared.line.Line.{Line}
 use Rattle.schedule_model.specs.declared.line.Line.TheVariants.{Cmd, Dump, Copy, Mark, Tail}
 use Rattle.schedule_model.specs.declared.refused.Refused.{Refused}
-use Rattle.archive_content.specs.Pieces.{is_of, has_ended, AreEnded}
+use Rattle.archive_content.specs.Pieces.{has_ended, AreEnded}
 use Rattle.history_model.specs.Stages.{Write, earlier, not_later, first_ts, Caps, Stage, Made}
 use Rattle.history_model.specs.Commands.{applied}
 use Rattle.history_model.specs.Entries.{OplogEntry}
-use Rattle.history_model.specs.Runs.{Schedule, Run, Refusal, NotNow, NoCursor, DumpState, Outcome, Done, Renamed, Rolled, Step, started, looked, all_ended, read_on, copied_by, copied, renamed_since, rolled_or, rolled, marked_by, marked, window, entries_from, is_gone, sent_on, tailed_to, tailed, still, in_dump, dumped, commanded, on_line, or_refused, after_line, after_lines, begun, first_run, repeated, last_step, names_in, rows_left, copied_out, tailed_out, marked_out, finished, run}
-use Rattle.history_model.specs.Histories.{history_of, history, state, moments_of, moments, reads, outcome}
+use Rattle.history_model.specs.Runs.{Schedule, Run, Refusal, NotNow, NoCursor, DumpState, Outcome, Done, Renamed, Rolled, Step, started, looked, all_ended, read_on, copied_by, copied, renamed_since, rolled_or, rolled, marked_by, marked, window, entries_from, is_gone, sent_on, tailed_to, tailed, still, in_dump, dumped, commanded, on_line, or_refused, after_line, after_lines, begun, first_run, repeated, last_step, names_in, rows_left, copied_out, marked_out, run}
+use Rattle.history_model.specs.Histories.{history_of, history, state, moments_of, outcome}
 use Rattle.history_model.specs.Invariants.{RisesTo, RunOk}
 use Rattle.history_model.specs.WellFormed.{IsWellFormedChange, AreWellFormedChanges, IsWellFormedCommand, IsWellFormedLine, AreWellFormedLines}
-use Rattle.history_model.specs.Laws.{Whole}
 use Rattle.history_model.proofs.Inductive.{each_map, none_above, all_above, first_holds}
 use Rattle.history_model.proofs.Modelled.{SameBase, IsStep, line_same}
 use Rattle.history_model.proofs.Runs.{GoodAfter, line_good, taken_rises}
-use Rattle.history_model.proofs.AtTheMark.{all_have_ended, rises_join}
+use Rattle.history_model.proofs.AtTheMark.{all_have_ended, rises_join, split_false}
 use Rattle.history_model.proofs.Limited.{append_none, history_front}
 use Rattle.history_model.proofs.Finished.{run_whole}
 use Rattle.dump_model.specs.Archives.{state_at, all_pieces}
@@ -140,11 +138,6 @@ copied_dump c n k d r h (r0, st) = by (map.get d.cursors n) refl
     by : (o : Option Cursor) → map.get d.cursors n ≡ o → AfterDump (copied_by n k o d r)
     by None e = tt
     by (Some x) e = on x e x.ended refl
-
-split_false : (x y : Bool) → (x || not y) ≡ false → y ≡ true
-split_false x true e = refl
-split_false true false e = cc
-split_false false false e = cc
 
 marked_dump : (c : Caps) (d : DumpState) (r : Run) → Full c r → r.dump ≡ Some d → (r0 : Rows) × Started r0 d r → AfterDump (marked d r)
 marked_dump c d r h there (r0, st) = by (is_some d.mark || not (all_ended d.cursors)) refl

@@ -20,7 +20,7 @@ use Rattle.entry_model.proofs.Standing.{down, somewhere}
 abbrev field_levels : List (List ℕ × Value) → List ℕ
 field_levels fs = map (λ e. levels_in e.1) fs
 
-field_level : (fs : List (List ℕ × Value)) (k : List ℕ) (c : Value) → lookup k fs ≡ Some c → levels_in c ≤ largest (field_levels fs)
+pub field_level : (fs : List (List ℕ × Value)) (k : List ℕ) (c : Value) → lookup k fs ≡ Some c → levels_in c ≤ largest (field_levels fs)
 field_level [] k c e = cc
 field_level (f ∷ fs) k c e =
     elim (cases_Bool (bytes_eq f.0 k)) [
@@ -28,16 +28,16 @@ field_level (f ∷ fs) k c e =
       | inr h ↦ let g : lookup k fs ≡ Some c = rw h at e in omega (arith, field_level fs k c g)
     ]
 
-item_level : (vs : List Value) (n : ℕ) (c : Value) → nth vs n ≡ Some c → levels_in c ≤ largest (map levels_in vs)
+pub item_level : (vs : List Value) (n : ℕ) (c : Value) → nth vs n ≡ Some c → levels_in c ≤ largest (map levels_in vs)
 item_level [] n c e = cc
 item_level (v ∷ vs) zero c e = let q : v ≡ c = cc in let l : levels_in v ≡ levels_in c = ap (λ (w : Value). levels_in w) q in omega (arith, l)
 item_level (v ∷ vs) (suc n) c e = omega (arith, item_level vs n c e)
 
-index_level : (vs : List Value) (i : Option ℕ) (c : Value) → at_index vs i ≡ Some c → levels_in c ≤ largest (map levels_in vs)
+pub index_level : (vs : List Value) (i : Option ℕ) (c : Value) → at_index vs i ≡ Some c → levels_in c ≤ largest (map levels_in vs)
 index_level vs None c e = cc
 index_level vs (Some n) c e = item_level vs n c e
 
-under_level : (f : Value-F Value) (v : Value) (k : List ℕ) (i : Option ℕ) (c : Value) → roll-Value f ≡ v → child_in f k i ≡ Some c → levels_in c < levels_in v
+pub under_level : (f : Value-F Value) (v : Value) (k : List ℕ) (i : Option ℕ) (c : Value) → roll-Value f ≡ v → child_in f k i ≡ Some c → levels_in c < levels_in v
 under_level (Value-F.Object fs) v k i c r e =
     let l : levels_in v ≡ levels_of fs = ap (λ (w : Value). levels_in w) (sym r ∙ rolls-Object fs) ∙ levels-object fs in omega (arith, l, field_level fs k c e)
 under_level (Value-F.ScopedCode t fs) v k i c r e =
@@ -50,7 +50,7 @@ child_level : (v : Value) (k : List ℕ) (c : Value) → child v k ≡ Some c �
 unfolding child
 child_level v k c e = under_level (out-Value v) v k (index_of k) c (roll-out-Value v) e
 
-kind_level : (f : Value-F Value) (v : Value) → roll-Value f ≡ v → (shape_in f ≡ an_object) ⊎ (shape_in f ≡ an_array) → 0 < levels_in v
+pub kind_level : (f : Value-F Value) (v : Value) → roll-Value f ≡ v → (shape_in f ≡ an_object) ⊎ (shape_in f ≡ an_array) → 0 < levels_in v
 kind_level (Value-F.Object fs) v r s =
     let l : levels_in v ≡ levels_of fs = ap (λ (w : Value). levels_in w) (sym r ∙ rolls-Object fs) ∙ levels-object fs in omega (arith, l)
 kind_level (Value-F.Array vs) v r s =

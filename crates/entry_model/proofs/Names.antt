@@ -18,7 +18,7 @@ first_of : List ℕ → ℕ
 first_of [] = 0
 first_of (c ∷ cs) = c
 
-unlike : (a b : ℕ) → (a == b) ≡ false → a ≡ b → ⊥
+pub unlike : (a b : ℕ) → (a == b) ≡ false → a ≡ b → ⊥
 unlike a b e h = grind (arith, common_steps)
 
 -- texts that begin otherwise

@@ -66,7 +66,7 @@ both_read f xs ys as' bs a b = split f xs ys ∙ (ap (λ (r : Read). then_also r
 pub next_read : {A : Type 0} (f : A → Read) (x : A) (xs : List A) (as' bs : List Edit) → f x ≡ Some as' → all_read f xs ≡ Some bs → all_read f (x ∷ xs) ≡ Some (as' ++ bs)
 next_read f x xs as' bs a b = ap (λ (r : Read). then_also r (all_read f xs)) a ∙ ap (then_also (Some as')) b
 
-append_none : (xs : List Edit) → xs ++ [] ≡ xs
+pub append_none : (xs : List Edit) → xs ++ [] ≡ xs
 append_none [] = refl
 append_none (x ∷ xs) = ap (λ (l : List Edit). x ∷ l) (append_none xs)
 

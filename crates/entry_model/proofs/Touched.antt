@@ -11,7 +11,7 @@ use Rattle.doc_path.specs.Played.{way_and_last, touch_of}
 use Rattle.touch_laws.specs.Agree.{Records, Done, InTouches}
 use Rattle.touch_laws.proofs.Order.{done_of}
 use Rattle.entry_model.specs.Edits as edits
-use Rattle.entry_model.specs.Edits.{Step, Sets, Unsets, Resizes, Edit, In, mapped}
+use Rattle.entry_model.specs.Edits.{Edit, In, mapped}
 use Rattle.entry_model.specs.Written.{Fields, spelled_v1, spelled_v2}
 use Rattle.entry_model.specs.Laws as laws
 use Rattle.entry_model.specs.Touches.{edit_of, touch_from, place_of, written, as_touches, touches_read, Writable, SameTouches, IsReadAs, WrittenIsRead, PlacesOnce, HoldsDistinct, WrittenIsDocument}
@@ -24,7 +24,7 @@ use Rattle.entry_model.proofs.Names2.{second_document}
 
 -- ---- a place and its two parts
 
-parted : (p : Part) (ps : List Part) → (way_and_last p ps).0 ++ ((way_and_last p ps).1 ∷ []) ≡ p ∷ ps
+pub parted : (p : Part) (ps : List Part) → (way_and_last p ps).0 ++ ((way_and_last p ps).1 ∷ []) ≡ p ∷ ps
 parted p [] = refl
 parted p (q ∷ qs) = ap (λ (l : List Part). p ∷ l) (parted q qs)
 
@@ -44,7 +44,7 @@ edit_place (Unset (p ∷ ps)) n = parted p ps
 edit_place (Resize [] m) n = absurd (n refl)
 edit_place (Resize (p ∷ ps) m) n = refl
 
-same_touch : (t : Touch) → edits.touch_of (edit_of t) ≡ touch_of t
+pub same_touch : (t : Touch) → edits.touch_of (edit_of t) ≡ touch_of t
 same_touch (Set [] a fresh) = refl
 same_touch (Set (p ∷ ps) a fresh) = refl
 same_touch (Unset []) = refl
@@ -94,7 +94,7 @@ carried form n spell ts old new ds placed is r =
 edits_each : (P : Edit → Type 0) (ts : List Touch) → ((t : Touch) → In t ts → P (edit_of t)) → (e : Edit) → In e (mapped edit_of ts) → P e
 edits_each P ts h e i = let x = mapped_in edit_of ts e i in subst P (sym x.2) (h x.0 x.1)
 
-touch_in_all : (ts : List Touch) (t : Touch) → In t ts → InTouches (touch_of t) (mapped touch_of ts)
+pub touch_in_all : (ts : List Touch) (t : Touch) → In t ts → InTouches (touch_of t) (mapped touch_of ts)
 touch_in_all [] t h = absurd h
 touch_in_all (x ∷ ts) t (inl e) = inl (ap touch_of e)
 touch_in_all (x ∷ ts) t (inr h) = inr (touch_in_all ts t h)

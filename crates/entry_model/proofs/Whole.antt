@@ -1,5 +1,5 @@
 -- The whole o in the second form, and what the same edits record.
-use Rattle.std.proofs.Common.{◌≡◌, ℕ, suc, zero, List, [], ◌∷◌, ◌++◌, Bool, false, refl, sym, ap, ◌∙◌, subst, inl, inr}
+use Rattle.std.proofs.Common.{◌≡◌, ℕ, suc, zero, List, [], ◌∷◌, Bool, false, refl, sym, ap, ◌∙◌, subst, inl, inr}
 use Rattle.std.specs.Prelude.{if◌then◌else◌, Some, None, pos, Ok}
 use Rattle.bson_value.specs.declared.value.Value.{Value, Object, Int}
 use Rattle.bson_value.specs.declared.value.Value.TheVariants.{outs-Int}
@@ -13,7 +13,7 @@ use Rattle.entry_model.specs.Written.{Fields, diff, is_array, diff_name, v_name,
 use Rattle.entry_model.specs.Reads.{has_a, diff_read, outermost, v2_field, update_read}
 use Rattle.entry_model.specs.Laws.{AllStand, SameEdits, Writable2, WrittenIsRead2}
 use Rattle.entry_model.proofs.Standing.{not_array}
-use Rattle.entry_model.proofs.Ordered.{object_read, no_a, order, read_order}
+use Rattle.entry_model.proofs.Ordered.{object_read, no_a, order, read_order, append_none}
 use Rattle.entry_model.proofs.Members.{same_edits}
 use Rattle.entry_model.proofs.Spelled.{spelled_again}
 
@@ -47,15 +47,11 @@ outer_a (suc n) es e = rw (e, no_a (λ r. diff n (group r es)) es) refl
 outermost_read : (n : ℕ) (es : List Edit) (ds : List Edit) → is_array es ≡ false → diff_read (suc n) (diff n es) ≡ Some ds → outermost (suc n) (diff n es) ≡ Some ds
 outermost_read n es ds a e = ap (λ (b : Bool). if b then None else diff_read (suc n) (diff n es)) (outer_a n es a) ∙ e
 
-append_nil : (xs : List Edit) → xs ++ [] ≡ xs
-append_nil [] = refl
-append_nil (x ∷ xs) = ap (λ (l : List Edit). x ∷ l) (append_nil xs)
-
 diff_field : (m : ℕ) (fs : Fields) (ds : List Edit) → outermost m fs ≡ Some ds → v2_field m diff_name (Object fs) ≡ Some ds
 diff_field m fs ds e = object_read (outermost m) fs ∙ e
 
 pub second_read : (n : ℕ) (es ds : List Edit) → outermost (suc n) (diff n es) ≡ Some ds → update_read (suc n) (spelled_v2 n es) ≡ Ok (V2, ds)
-second_read n es ds e = rw (outs-Int (pos 2), diff_field (suc n) (diff n es) ds e) (ap (λ (l : List Edit). Ok (V2, l)) (append_nil ds))
+second_read n es ds e = rw (outs-Int (pos 2), diff_field (suc n) (diff n es) ds e) (ap (λ (l : List Edit). Ok (V2, l)) (append_none ds))
 
 pub second : WrittenIsRead2
 second n es old new w =

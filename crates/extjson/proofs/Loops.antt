@@ -11,6 +11,7 @@ use Rattle.extjson.specs.declared.fault.ExtFault.{ExtFault}
 use Rattle.extjson.specs.declared.fault.ExtFault.TheVariants as faults
 use Rattle.extjson.specs.declared.fault.ExtFault.TheVariants.{BadWrapper}
 use Rattle.extjson.specs.Values.{Read, ◌>>=◌, Fails, value_of, parts_of, items_value, fields_value, without_zero}
+use Rattle.json_tree.proofs.Names.{names_of-push}
 
 -- what is done, and then what is read
 abbrev pub behind : {A : Type 0} → List A → Read (List A) → Read (List A)
@@ -31,10 +32,6 @@ failed faults.BadWrapper r f h = ap (λ (x : Read _). x >>= f) h
 failed faults.Double r f h = ap (λ (x : Read _). x >>= f) h
 failed faults.Decimal r f h = ap (λ (x : Read _). x >>= f) h
 failed faults.Range r f h = ap (λ (x : Read _). x >>= f) h
-
-names_behind : {A : Type 0} (es : List (List ℕ × A)) (e : List ℕ × A) → names_of (es ++ e ∷ []) ≡ names_of es ++ e.0 ∷ []
-names_behind [] e = refl
-names_behind (f ∷ es) e = ap (λ (ns : List (List ℕ)). f.0 ∷ ns) (names_behind es e)
 
 kept_or : (t name : List ℕ) (b : Bool) → cond b (Err BadWrapper) (Ok t) ≡ Ok name → name ≡ t
 kept_or t name true h = absurd cc
@@ -102,8 +99,8 @@ module _ (es : List (List ℕ × Tree)) where
     pub names_more : (done : List (List ℕ × Value)) (name : List ℕ) (v : Value) → without_zero e.0 ≡ Ok name → names_of done ≡ names_of (take i es) → names_of (done ++ (name, v) ∷ []) ≡ names_of (take (i + 1) es)
     names_more done name v n h =
         let last : take (i + 1) es ≡ take i es ++ e ∷ [] = take_more es i e lt ∙ ap (λ (x : List ℕ × Tree). take i es ++ x ∷ []) (sym at) in
-        names_behind done (name, v) ∙ ap (λ (ns : List (List ℕ)). ns ++ name ∷ []) h ∙ ap (λ (m : List ℕ). names_of (take i es) ++ m ∷ []) (name_kept e.0 name n)
-        ∙ sym (ap (λ (l : List (List ℕ × Tree)). names_of l) last ∙ names_behind (take i es) e)
+        names_of-push done (name, v) ∙ ap (λ (ns : List (List ℕ)). ns ++ name ∷ []) h ∙ ap (λ (m : List ℕ). names_of (take i es) ++ m ∷ []) (name_kept e.0 name n)
+        ∙ sym (ap (λ (l : List (List ℕ × Tree)). names_of l) last ∙ names_of-push (take i es) e)
 
   pub fields_end : (i : ℕ) (done : List (List ℕ × Value)) (total : Read (List (List ℕ × Value))) → length es ≤ i → total ≡ behind done (fields_left i) → total ≡ Ok done
   unfolding fields_value

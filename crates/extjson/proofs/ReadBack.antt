@@ -154,7 +154,7 @@ unfolding is_whole is_natural
 whole_plain [] h ne = h
 whole_plain (c ∷ cs) h ne = rw (ne_eqb c 45 ne) h
 
-plain_number : (ds : List ℕ) → get_or ds 0 0 ≢ 45 → get_or ds 0 0 ≢ 43 → signed_digits_value 10 ds ≡ pos (digits_value 10 ds)
+pub plain_number : (ds : List ℕ) → get_or ds 0 0 ≢ 45 → get_or ds 0 0 ≢ 43 → signed_digits_value 10 ds ≡ pos (digits_value 10 ds)
 plain_number ds minus plus = rw (ne_eqb (get_or ds 0 0) 45 minus, ne_eqb (get_or ds 0 0) 43 plus) refl
 
 record IsText (t : List ℕ) (z : ℤ) : Type 0 where

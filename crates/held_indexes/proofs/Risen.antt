@@ -1,6 +1,6 @@
 -- Lists of entries whose keys rise: each entry is found under its key, and no two are of one key.
-use Rattle.std.proofs.Common.{◌≡◌, List, [], ◌∷◌, ◌++◌, map as each, Bool, true, false, cond, refl, sym, ap, ◌∙◌, subst, Option, Some, None, inl, inr}
-use Rattle.std.specs.Prelude.{⊤, ◌⊎◌, ◌&&◌, T, if◌then◌else◌}
+use Rattle.std.proofs.Common.{◌≡◌, List, [], ◌∷◌, Bool, true, false, cond, refl, sym, ap, ◌∙◌, Option, Some, None, inl, inr}
+use Rattle.std.specs.Prelude.{⊤, ◌⊎◌, T, if◌then◌else◌}
 use Rattle.std.specs.Ordering.{is_eq, is_lt}
 use Rattle.std.specs.declared.cmp.Ordering.{Ordering}
 use Rattle.std.specs.declared.cmp.Ordering.TheVariants.{Less, Equal, Greater}
@@ -9,14 +9,7 @@ use Rattle.std.specs.FinMap.Entries.{below_all}
 use Rattle.std.proofs.lemmas.Bool.{cases_Bool}
 use Rattle.state_model.specs.Keys.{Key, key_cmp, same_key}
 use Rattle.state_model.proofs.Keys.{key_is, key_refl}
-
-first : (a b : Bool) → T (a && b) → T a
-first true b t = tt
-first false b t = absurd t
-
-pub second : (a b : Bool) → T (a && b) → T b
-second true b t = t
-second false b t = absurd t
+use Rattle.index_build.proofs.Built.{first, second}
 
 module _ {X : Type 0} where
   is_less : (o : Ordering) (x y : Option X) → T (is_lt o) → cond (is_eq o) x y ≡ y

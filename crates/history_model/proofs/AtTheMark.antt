@@ -68,7 +68,7 @@ not_failed a b e = cc
 pub same_run : (a b : Run) → ◌≡◌ {A = Result Run Refusal} (Ok a) (Ok b) → a ≡ b
 same_run a b e = cc
 
-split_false : (x y : Bool) → (x || not y) ≡ false → y ≡ true
+pub split_false : (x y : Bool) → (x || not y) ≡ false → y ≡ true
 split_false x true e = refl
 split_false true false e = cc
 split_false false false e = cc

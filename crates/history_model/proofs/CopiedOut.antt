@@ -42,7 +42,7 @@ behind_less : (a b : ℕ) (rs : List Row) → a ≤ b → behind b rs ≤ behind
 behind_less a b [] h = omega arith
 behind_less a b (r ∷ rs) h = (let x = one_less a b r.no h in let y = behind_less a b rs h in omega arith)
 
-at_most_one : (b : Bool) → one_if b ≤ 1
+pub at_most_one : (b : Bool) → one_if b ≤ 1
 at_most_one true = omega arith
 at_most_one false = omega arith
 
@@ -250,7 +250,7 @@ all_out d t r k x c g = by (k.aside x c g)
     by (inr v) = absurd (named (map.entries d.cursors) x c (sym (map.get-entries d.cursors x) ∙ v.1) v.0)
 
 -- and so the map's entries say
-both : (a b : Bool) → T (a && b) → T a × T b
+pub both : (a b : Bool) → T (a && b) → T a × T b
 both true b h = (tt, h)
 both false b h = absurd h
 

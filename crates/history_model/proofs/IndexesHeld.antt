@@ -27,7 +27,7 @@ use Rattle.schedule_model.specs.declared.command.DocumentCommand.TheVariants.{In
 use Rattle.schedule_model.specs.declared.command.Command.{Command}
 use Rattle.schedule_model.specs.declared.command.Command.TheVariants.{At, Recording, Create, DropColl, DropDatabase, Rename, Document, CreateIndex, DropIndex, Txn}
 use Rattle.schedule_model.specs.declared.refused.Refused.{Refused}
-use Rattle.copy_model.specs.Writes.{SingleWrite, change_rows}
+use Rattle.copy_model.specs.Writes.{change_rows}
 use Rattle.copy_model.specs.Writes as writes
 use Rattle.history_model.specs.Documents.{id_first, options_of, normal_of, is_good_document, is_good_definition}
 use Rattle.history_model.specs.Entries.{Item, update_item}
@@ -199,7 +199,7 @@ put_fresh_holds count o k d i x e = no_tree x (sym (map.get-empty {X = Tree} key
 unless_holds : (old new : Fields) (cs : List RecordedWrite) (r : Rows) → IndexesHold r → IndexesHold (rows_of_changes cs r) → IndexesHold (rows_of_changes (unless_same old new cs) r)
 unless_holds old new cs r h g = elim (same (Object old) (Object new)) as (λ b. IndexesHold (rows_of_changes (elim b [ true ↦ [] | false ↦ cs ]) r)) [ true ↦ h | false ↦ g ]
 
-is_good : (b : Bool) → not b ≡ false → b ≡ true
+pub is_good : (b : Bool) → not b ≡ false → b ≡ true
 is_good true e = refl
 is_good false e = cc
 
@@ -290,7 +290,7 @@ together_holds f (d ∷ ds) r all e h =
 
 -- ---- effects
 
-rows_of_effects : List Effect → Rows → Rows
+pub rows_of_effects : List Effect → Rows → Rows
 rows_of_effects [] r = r
 rows_of_effects (d ∷ ds) r = rows_of_effects ds (rows_by d.0 r)
 

@@ -13,7 +13,7 @@ use Rattle.json_tree.specs.declared.tree.Tree.{Tree}
 use Rattle.state_model.specs.Keys.{Key}
 use Rattle.state_model.specs.States.{State, Collection}
 use Rattle.state_model.specs.Shown.{ShownCollection, shown_document, shown_collection, shown}
-use Rattle.state_model.proofs.Shown.{answers_on}
+use Rattle.state_model.proofs.Shown.{answers_on, some_shown}
 use Rattle.index_keys.specs.declared.plan.Plan.{Plan}
 use Rattle.index_keys.specs.Definition.{plan_of}
 use Rattle.index_keys.specs.Keys.{Fields, parallel}
@@ -138,7 +138,7 @@ same_duplicate : (b : Bool) (plan : Plan) (ds es : List Fields) → AllAlike ds 
 same_duplicate true plan ds es h = same_behind plan [] [] ds es tt h
 same_duplicate false plan ds es h = refl
 
-some_mapped : {A B : Type 0} (f : A → B) (o : Option A) → is_some (option_map f o) ≡ is_some o
+pub some_mapped : {A B : Type 0} (f : A → B) (o : Option A) → is_some (option_map f o) ≡ is_some o
 some_mapped f None = refl
 some_mapped f (Some x) = refl
 
@@ -187,9 +187,6 @@ docs_alike (x ∷ es) (f ∷ fs) e =
 
 same_shown : (c k : Collection) → shown_collection c ≡ shown_collection k → (map.entries c.indexes ≡ map.entries k.indexes) × AllAlike (documents c) (documents k)
 same_shown c k e = (ap (λ (s : ShownCollection). s.indexes) e, docs_alike (map.entries c.documents) (map.entries k.documents) (ap (λ (s : ShownCollection). s.documents) e))
-
-pub some_shown : (c k : ShownCollection) → Some c ≡ Some k → c ≡ k
-some_shown c k e = cc
 
 numbers_shown : (o u : Option Collection) → option_map shown_collection o ≡ option_map shown_collection u → numbers_in o ≡ numbers_in u
 numbers_shown None None e = refl

@@ -27,16 +27,16 @@ abbrev or_what : Option Texts → Option Texts → Option Texts
 or_what None o = o
 or_what (Some ts) o = Some ts
 
-is_less : {A : Type 0} (o : Ordering) (x y : Option A) → T (is_lt o) → cond (is_eq o) x y ≡ y
+pub is_less : {A : Type 0} (o : Ordering) (x y : Option A) → T (is_lt o) → cond (is_eq o) x y ≡ y
 is_less Less x y t = refl
 is_less Equal x y t = absurd t
 is_less Greater x y t = absurd t
 
-first : (a b : Bool) → T (a && b) → T a
+pub first : (a b : Bool) → T (a && b) → T a
 first true b t = tt
 first false b t = absurd t
 
-second : (a b : Bool) → T (a && b) → T b
+pub second : (a b : Bool) → T (a && b) → T b
 second true b t = t
 second false b t = absurd t
 

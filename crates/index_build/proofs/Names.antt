@@ -18,6 +18,7 @@ use Rattle.coll_state.proofs.Keyed.{rise_ordered}
 use Rattle.index_build.specs.Documents.{documents}
 use Rattle.index_build.specs.Numbers.{number, numbers_in, counts, joined, number_in, number_at}
 use Rattle.index_build.specs.Sorted.{NumbersVec, numbers_told, index_name, space_name, AllRise, AreByName}
+use Rattle.index_build.proofs.Built.{second}
 
 -- ---- names that rise
 
@@ -26,13 +27,9 @@ less_of Less t = refl
 less_of Equal t = absurd t
 less_of Greater t = absurd t
 
-first_of : (a b : Bool) → T (a && b) → T a
+pub first_of : (a b : Bool) → T (a && b) → T a
 first_of true b t = tt
 first_of false b t = t
-
-second_of : (a b : Bool) → T (a && b) → T b
-second_of true b t = t
-second_of false b t = absurd t
 
 module _ {K X Y : Type 0} (R : K → K → Ordering) (g : K × X → Y) where
   abbrev named_by : K × X → K × Y
@@ -43,11 +40,11 @@ module _ {K X Y : Type 0} (R : K → K → Ordering) (g : K × X → Y) where
 
   after_all : (k : K) (es : List (K × X)) → T (below_all R k es) → AllAfter R name k (each named_by es)
   after_all k [] t = tt
-  after_all k (e ∷ es) t = (less_of (R k e.0) (first_of (is_lt (R k e.0)) (below_all R k es) t), after_all k es (second_of (is_lt (R k e.0)) (below_all R k es) t))
+  after_all k (e ∷ es) t = (less_of (R k e.0) (first_of (is_lt (R k e.0)) (below_all R k es) t), after_all k es (second (is_lt (R k e.0)) (below_all R k es) t))
 
   pub rise_all : (es : List (K × X)) → T (map.is_sorted R es) → Rise R name (each named_by es)
   rise_all [] t = tt
-  rise_all (e ∷ es) t = (after_all e.0 es (first_of (below_all R e.0 es) (map.is_sorted R es) t), rise_all es (second_of (below_all R e.0 es) (map.is_sorted R es) t))
+  rise_all (e ∷ es) t = (after_all e.0 es (first_of (below_all R e.0 es) (map.is_sorted R es) t), rise_all es (second (below_all R e.0 es) (map.is_sorted R es) t))
 
 numbers_rise : (o : Option Collection) → Rise key_cmp index_name (numbers_in o)
 numbers_rise None = tt

@@ -1,6 +1,6 @@
 -- Entries by their keys are a finite map.
 use Rattle.std.proofs.Common.{◌≡◌, ℕ, ◌+◌, ◌≤◌, List, [], ◌∷◌, Bool, true, false, cond, refl, sym, ap, ◌∙◌, subst, arith, Option, Some, None}
-use Rattle.std.specs.Prelude.{◌&&◌, option_map, is_some, T, min, if◌then◌else◌}
+use Rattle.std.specs.Prelude.{option_map, is_some, T, min, if◌then◌else◌}
 use Rattle.std.specs.FinMap as map
 use Rattle.std.specs.FinMap.Entries.{below_all}
 use Rattle.std.specs.declared.cmp.Ordering.{Ordering}
@@ -16,6 +16,7 @@ use Rattle.index_build.specs.declared.entry.Entry.{Entry}
 use Rattle.index_build.specs.Entries.{entry_key, owned_of, owned_in}
 use Rattle.index_build.specs.Owned.{Owned}
 use Rattle.index_build.specs.Owners.{Texts}
+use Rattle.coll_state.proofs.Parts.{and_T}
 
 abbrev pub at_entry : Key → Entry → Ordering
 at_entry k = beside key_cmp entry_key k
@@ -53,14 +54,9 @@ below_owned : (k : Key) (es : List Entry) → AllAfter key_cmp entry_key k es �
 below_owned k [] a = tt
 below_owned k (e ∷ es) a = rw a.0 (below_owned k es a.1)
 
-both : (a b : Bool) → T a → T b → T (a && b)
-both true true x y = tt
-both true false x y = y
-both false b x y = x
-
 sorted_owned : (es : List Entry) → Rise key_cmp entry_key es → T (map.is_sorted key_cmp (owned_of es))
 sorted_owned [] r = tt
-sorted_owned (e ∷ es) r = both (below_all key_cmp e.key (owned_of es)) (map.is_sorted key_cmp (owned_of es)) (below_owned e.key es r.0) (sorted_owned es r.1)
+sorted_owned (e ∷ es) r = and_T (below_all key_cmp e.key (owned_of es)) (map.is_sorted key_cmp (owned_of es)) (below_owned e.key es r.0) (sorted_owned es r.1)
 
 pub entries_owned : (es : List Entry) → Rise key_cmp entry_key es → map.entries (owned_in es) ≡ owned_of es
 entries_owned es r =

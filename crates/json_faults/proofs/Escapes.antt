@@ -8,7 +8,7 @@ use Rattle.std.proofs.lemmas.Str.Ascii.{IsAscii-cons, IsAscii-nil}
 use Rattle.json_tree.specs.Numbers.{is_digit}
 use Rattle.json_text.specs.Reading.{Taken, word_at, hex_value, within, hex_at, unit_at, low_at, unicode_at, meant, one, escape_at}
 use Rattle.json_text.proofs.Found.{bind_ok, taken_is}
-use Rattle.json_text.proofs.FoundStrings.{word_found}
+use Rattle.json_text.proofs.FoundStrings.{word_found, outside}
 use Rattle.json_text.proofs.Strings.{hex_small}
 use Rattle.json_faults.proofs.Decisions.{fault_is_none}
 use Rattle.json_faults.proofs.Completions.{AreLow, low_append}
@@ -135,11 +135,6 @@ low_means start end high bs m rest from below h =
       low = four_low e.digit f.digit g.third g.fourth e.ascii f.ascii g.third_low g.fourth_low;
       utf8 = subst IsUtf8 same.0 (IsUtf8-encode _ (scalar_high (65536 + 1024 * (high - 55296) + (three.0.0 - 56320)) (omega (arith, from, lower)) (omega (arith, from, below, lower, upper))));
     }
-
-outside : (u : ℕ) (x y : Truth) → ltb u 55296 ≡ x → ltb 57343 u ≡ y → (x || y) ≡ true → (u < 55296) ⊎ (57343 < u)
-outside u true y e f h = inl (ltb-true u 55296 e)
-outside u false true e f h = inr (ltb-true 57343 u f)
-outside u false false e f h = absurd cc
 
 scalar_unit : (u : ℕ) → (u < 55296) ⊎ (57343 < u) → u < 65536 → IsScalar u
 scalar_unit u (inl h) below = scalar_low u h

@@ -77,7 +77,7 @@ word_found start end (w ∷ word) (b ∷ bs) rest h =
 abbrev IsEscape : List ℕ → List ℕ → List ℕ → Type 0
 IsEscape bs m rest = (s : List ℕ) × (bs ≡ s ++ rest) × ((tail t : List ℕ) → AreChars tail t → AreChars (92 ∷ (s ++ tail)) (m ++ t))
 
-outside : (u : ℕ) (x y : Truth) → ltb u 55296 ≡ x → ltb 57343 u ≡ y → (x || y) ≡ true → (u < 55296) ⊎ (57343 < u)
+pub outside : (u : ℕ) (x y : Truth) → ltb u 55296 ≡ x → ltb 57343 u ≡ y → (x || y) ≡ true → (u < 55296) ⊎ (57343 < u)
 outside u true y e f h = inl (ltb-true u 55296 e)
 outside u false true e f h = inr (ltb-true 57343 u f)
 outside u false false e f h = absurd cc

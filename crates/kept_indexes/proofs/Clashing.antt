@@ -22,7 +22,8 @@ use Rattle.kept_indexes.specs.Kept.{paired, with_plan, plans_of, AreOver, IsKept
 use Rattle.kept_indexes.specs.Verdicts.{is_shared, is_parallel, some_shared, some_parallel}
 use Rattle.kept_indexes.proofs.Entries.{sorted_rest, find_here, find_later, found_entry}
 use Rattle.kept_indexes.proofs.Owned.{row_texts, built_get}
-use Rattle.kept_indexes.proofs.Tests.{or_both, or_false, or_true, same_truth, any_none, some_where, meet_turn}
+use Rattle.kept_indexes.proofs.Tests.{or_both, or_true, same_truth, meet_turn}
+use Rattle.command_refusals.proofs.Shared.{or_false, any_none, some_where}
 
 -- ---- tests of rows
 

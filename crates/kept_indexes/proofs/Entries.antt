@@ -1,28 +1,14 @@
 -- The entries of a map by names: each stands under its name.
-use Rattle.std.proofs.Common.{◌≡◌, List, [], ◌∷◌, Bool, true, false, cond, refl, sym, ap, ◌∙◌, Option, Some, None, inl, inr}
-use Rattle.std.specs.Prelude.{◌⊎◌, ◌&&◌, ◌||◌, T}
+use Rattle.std.proofs.Common.{◌≡◌, List, [], ◌∷◌, Bool, true, false, cond, refl, sym, ap, ◌∙◌, Some, None, inl, inr}
+use Rattle.std.specs.Prelude.{◌⊎◌, ◌||◌, T}
 use Rattle.std.specs.List.{list_any}
-use Rattle.std.specs.Ordering.{is_eq, is_lt}
-use Rattle.std.specs.declared.cmp.Ordering.{Ordering}
-use Rattle.std.specs.declared.cmp.Ordering.TheVariants.{Less, Equal, Greater}
+use Rattle.std.specs.Ordering.{is_lt}
 use Rattle.std.specs.FinMap as map
 use Rattle.std.specs.FinMap.Entries.{below_all}
 use Rattle.std.proofs.lemmas.Bool.{cases_Bool}
 use Rattle.state_model.specs.Keys.{Key, key_cmp, same_key}
 use Rattle.state_model.proofs.Keys.{key_is, key_refl}
-
-is_less : {A : Type 0} (o : Ordering) (x y : Option A) → T (is_lt o) → cond (is_eq o) x y ≡ y
-is_less Less x y t = refl
-is_less Equal x y t = absurd t
-is_less Greater x y t = absurd t
-
-first : (a b : Bool) → T (a && b) → T a
-first true b t = tt
-first false b t = absurd t
-
-second : (a b : Bool) → T (a && b) → T b
-second true b t = t
-second false b t = absurd t
+use Rattle.index_build.proofs.Built.{is_less, first, second}
 
 module _ {X : Type 0} where
   -- nothing stands under a key that is below all

@@ -1,24 +1,21 @@
 -- What is written of options and definitions is read as them.
-use Rattle.std.proofs.Common.{◌≡◌, ℕ, suc, max, ◌+◌, ◌*◌, ◌≤◌, List, [], ◌∷◌, Bool, true, false, refl, sym, ap, ◌∙◌, subst, arith, Option, Some, None}
-use Rattle.std.specs.Prelude.{⊤, T, ◌&&◌, map as each, option_map, codes, Ok, if◌then◌else◌}
-use Rattle.std.specs.Cmp.{IsTotalOrder}
-use Rattle.std.specs.Cmp.Lexicographic.{slice_cmp}
-use Rattle.std.specs.Ordering.{nat_cmp, is_lt, ordering_reverse}
+use Rattle.std.proofs.Common.{◌≡◌, ℕ, ◌≤◌, List, [], ◌∷◌, Bool, true, refl, sym, ap, ◌∙◌, subst, arith, Option, Some, None}
+use Rattle.std.specs.Prelude.{⊤, T, map as each, option_map, codes, Ok, if◌then◌else◌}
+use Rattle.std.specs.Ordering.{is_lt, ordering_reverse}
 use Rattle.std.specs.declared.cmp.Ordering.{Ordering}
 use Rattle.std.specs.declared.cmp.Ordering.TheVariants.{Less, Equal, Greater}
 use Rattle.std.specs.FinMap as map
 use Rattle.std.specs.FinMap.Entries.{below_all, is_sorted}
-use Rattle.std.specs.Str.{is_utf8}
 use Rattle.containers.specs.Entries.{lookup}
 use Rattle.bson_value.specs.declared.namespace.NsName.{NsName}
-use Rattle.bson_value.specs.declared.value.Value.{Value, Object, Str}
+use Rattle.bson_value.specs.declared.value.Value.{Object, Str}
 use Rattle.bson_value.specs.declared.value.Value.TheVariants as values
 use Rattle.bson_value.specs.NamespaceOrder.{namespace_cmp}
 use Rattle.bson_value.specs.Levels as sizes
 use Rattle.bson_value.specs.WellFormed.{IsWellFormedDocument}
 use Rattle.bson_value.proofs.WellFormed.{formed_object}
 use Rattle.bson_value.proofs.Sizes.{levels-object}
-use Rattle.json_tree.specs.declared.tree.Tree.{Tree, Tree-F, out-Tree}
+use Rattle.json_tree.specs.declared.tree.Tree.{Tree, out-Tree}
 use Rattle.json_tree.specs.declared.tree.Tree.TheVariants as trees
 use Rattle.json_tree.specs.WellFormed.{IsWellFormed, AreWellFormedItems}
 use Rattle.json_tree.specs.Levels.{levels_of, items_levels}
@@ -27,23 +24,23 @@ use Rattle.extjson.specs.Trees.{tree_of, fields_of}
 use Rattle.extjson.specs.Plain.{wrapped_numbers}
 use Rattle.extjson.proofs.Unwrapped.{trees_wrapped}
 use Rattle.extjson.proofs.Shallow.{trees_shallow}
-use Rattle.metadata_text.specs.Metadata.{Named, is_object, is_object_at, text_at, text_in, name_beside, name_at, name_first, named, metadata_of, metadata_tree}
+use Rattle.metadata_text.specs.Metadata.{is_object, is_object_at, text_at, text_in, name_beside, name_at, name_first, named, metadata_of, metadata_tree}
 use Rattle.metadata_text.specs.Metadata as metadata
-use Rattle.metadata_text.specs.RoundTrip.{AllBehind, AreRising, AreOthers, AreNormal, AreShallow, WrittenIsRead}
+use Rattle.metadata_text.specs.RoundTrip.{AllBehind, AreRising, AreOthers, WrittenIsRead}
 use Rattle.state_model.specs.Keys.{Key, key_cmp}
 use Rattle.state_model.specs.States.{State, Collection}
 use Rattle.state_model.proofs.Keys.{key_total, key_refl, key_is, ns_refl, ns_is}
-use Rattle.coll_state.specs.Rows.{Document as Fields, Table, Rows, state_of}
+use Rattle.coll_state.specs.Rows.{Document as Fields, Table, state_of}
 use Rattle.coll_state.specs.Definitions.{definition_name}
 use Rattle.history_model.specs.Documents.{options_of}
 use Rattle.entry_documents.proofs.Documents.{a_text}
 use Rattle.formed_trees.proofs.Formed.{trees_formed}
-use Rattle.recorded_entries.specs.Good.{IsGoodName, IsGoodOptions, IsGoodDefinition}
-use Rattle.recorded_entries.specs.Kept.{IsKeptOptions, IsKeptTable, AreKept}
+use Rattle.recorded_entries.specs.Good.{IsGoodName, IsGoodDefinition}
+use Rattle.recorded_entries.specs.Kept.{IsKeptTable}
 use Rattle.recorded_entries.proofs.Names.{good_coll}
 use Rattle.dump_steps.proofs.DumpRuns.{steps_follow}
 use Rattle.dump_content.proofs.Metas.{AllOf, table_of}
-use Rattle.dump_content.proofs.Sorted.{AllEntries, each_entry}
+use Rattle.dump_content.proofs.Sorted.{AllEntries, each_entry, first_of, second_of}
 use Rattle.archive_base.specs.Laws.{AreReadAgain}
 use Rattle.metadata_again.specs.Laws.{KeptIsReadAgain, StartIsReadAgain}
 use Rattle.recorded_entries.proofs.Definitions.{tree_object, tree_str, lookup_trees}
@@ -115,14 +112,6 @@ all_named (d ∷ ds) h =
     ap (λ (o : Option (List ℕ)). name_first d.1 o (named (values_in ds))) (good_name d.1 h.0.0 ∙ ap Some h.0.1)
     ∙ ap (name_first d.1 (Some d.0)) (all_named ds h.1)
 
-front_part : (a b : Bool) → T (a && b) → T a
-front_part true b p = tt
-front_part false b p = p
-
-back_part : (a b : Bool) → T (a && b) → T b
-back_part true b p = p
-back_part false b p = absurd p
-
 behind : (a b : Key) → T (is_lt (key_cmp a b)) → key_cmp b a ≡ Greater
 behind a b h = by (key_cmp a b) refl h
   where
@@ -133,11 +122,11 @@ behind a b h = by (key_cmp a b) refl h
 
 all_behind : (n : Key) (ds : Definitions) → T (below_all key_cmp n ds) → AllBehind n ds
 all_behind n [] h = tt
-all_behind n (d ∷ ds) h = (behind n d.0 (front_part (is_lt (key_cmp n d.0)) (below_all key_cmp n ds) h), all_behind n ds (back_part (is_lt (key_cmp n d.0)) (below_all key_cmp n ds) h))
+all_behind n (d ∷ ds) h = (behind n d.0 (first_of (is_lt (key_cmp n d.0)) (below_all key_cmp n ds) h), all_behind n ds (second_of (is_lt (key_cmp n d.0)) (below_all key_cmp n ds) h))
 
 all_rising : (ds : Definitions) → T (is_sorted key_cmp ds) → AreRising ds
 all_rising [] h = tt
-all_rising (d ∷ ds) h = (all_behind d.0 ds (front_part (below_all key_cmp d.0 ds) (is_sorted key_cmp ds) h), all_rising ds (back_part (below_all key_cmp d.0 ds) (is_sorted key_cmp ds) h))
+all_rising (d ∷ ds) h = (all_behind d.0 ds (first_of (below_all key_cmp d.0 ds) (is_sorted key_cmp ds) h), all_rising ds (second_of (below_all key_cmp d.0 ds) (is_sorted key_cmp ds) h))
 
 all_others : (ds : Definitions) → AllNamed ds → AreOthers ds
 all_others [] h = tt

@@ -6,9 +6,6 @@ use Rattle.std.proofs.lemmas.Grind.{common_steps}
 use Rattle.std.specs.Borrow.{Bor}
 use Rattle.oplog_entry.specs.DiffFields.{behind_letter}
 
-unlike : (a b : ℕ) → (a == b) ≡ false → a ≡ b → ⊥
-unlike a b e h = grind (arith, common_steps)
-
 like : (a b : ℕ) → (a == b) ≡ true → a ≡ b
 like a b e = grind (arith, common_steps)
 

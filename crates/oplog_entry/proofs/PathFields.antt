@@ -1,16 +1,14 @@
 -- The fields of the first form are read as the touches of their paths.
-use Rattle.std.proofs.Common.{◌≡◌, ℕ, List, [], ◌∷◌, ◌++◌, length, true, false, refl, sym, ap, ◌∙◌, subst, arith}
-use Rattle.std.specs.Prelude.{Some, ◌==◌}
+use Rattle.std.proofs.Common.{◌≡◌, ℕ, List, [], ◌∷◌, ◌++◌, true, false, refl, sym, ap, ◌∙◌, subst}
+use Rattle.std.specs.Prelude.{Some}
 use Rattle.std.specs.Str.{bytes_eq}
 use Rattle.std.proofs.lemmas.Slice.Eq.{bytes_eq-Decides}
-use Rattle.std.proofs.lemmas.List.Splits.{length-slice_split}
 use Rattle.bson_value.specs.declared.value.Value.{Value}
 use Rattle.doc_path.specs.declared.parts.Part.{Part}
 use Rattle.doc_path.specs.declared.parts.Part.TheVariants.{Name as name}
 use Rattle.doc_path.specs.declared.touches.Touch.{Touch}
 use Rattle.doc_path.specs.declared.touches.Touch.TheVariants.{Set, Unset}
 use Rattle.doc_path.specs.Paths.{parts_of}
-use Rattle.doc_path.specs.Played.{way_and_last}
 use Rattle.entry_model.specs.Edits.{Sets, Unsets, Edit, mapped}
 use Rattle.bson_value.specs.declared.value.Value.TheVariants.{Object}
 use Rattle.doc_path.specs.declared.parts.Form.{Form}
@@ -21,16 +19,8 @@ use Rattle.oplog_entry.specs.DiffFields.{at_front, Adds}
 use Rattle.oplog_entry.specs.PathTouches.{path_set, path_unset, form_field}
 use Rattle.entry_model.proofs.Ordered.{object_read}
 use Rattle.oplog_entry.proofs.Pushes.{mapped_append}
-
-some_parts : (text : List ℕ) → parts_of text ≡ [] → ⊥
-some_parts text e =
-    let l = length-slice_split (λ (b : ℕ). b == 46) text in
-    let n : length (parts_of text) ≡ 0 = ap length e in
-    omega (arith, l, n)
-
-parted : (p : Part) (ps : List Part) → (way_and_last p ps).0 ++ ((way_and_last p ps).1 ∷ []) ≡ p ∷ ps
-parted p [] = refl
-parted p (q ∷ qs) = ap (λ (l : List Part). p ∷ l) (parted q qs)
+use Rattle.doc_path.proofs.Named.{some_parts}
+use Rattle.entry_model.proofs.Touched.{parted}
 
 set_there : (ks : List (List ℕ)) (v : Value) → (ks ≡ [] → ⊥) → mapped (at_front []) (at_path ks (λ p. Sets p v false)) ≡ Set (mapped name ks) v false ∷ []
 set_there [] v n = absurd (n refl)

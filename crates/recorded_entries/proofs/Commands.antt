@@ -27,7 +27,7 @@ use Rattle.update_model.specs.Updating.{updated}
 use Rattle.update_action.specs.Recorded.{recorded}
 use Rattle.update_records.proofs.Made.{updated_formed}
 use Rattle.update_bounds.proofs.First.{updates_keep_first}
-use Rattle.update_bounds.proofs.Small.{updates_are_small}
+use Rattle.update_bounds.proofs.Small.{updates_are_small, not_above}
 use Rattle.schedule_model.specs.declared.command.DocumentCommand.{DocumentCommand}
 use Rattle.schedule_model.specs.declared.command.DocumentCommand.TheVariants.{Insert, Replace, Update, Delete}
 use Rattle.schedule_model.specs.declared.command.Command.{Command}
@@ -36,7 +36,7 @@ use Rattle.schedule_model.specs.declared.refused.Refused.{Refused}
 use Rattle.copy_model.specs.Writes as writes
 use Rattle.copy_model.specs.Writes.{change_rows}
 use Rattle.history_model.specs.Documents.{id_first, options_of, has_field, is_short, are_good_options, normal_of, name_of, is_good_document, is_good_definition, is_bad_name}
-use Rattle.history_model.specs.Entries.{Item, Content, One, Group, delta_or_whole, update_item, content_size}
+use Rattle.history_model.specs.Entries.{One, Group, delta_or_whole, update_item, content_size}
 use Rattle.history_model.specs.Entries as entries
 use Rattle.history_model.specs.Stages.{Stage, Effect, Single, rows_by}
 use Rattle.history_model.specs.Refusals.{is_there, row_in, row_at, accepted, update_of, definitions_in, in_database, first_of, document_rows, document_refusal, name_there, index_rows}
@@ -48,9 +48,10 @@ use Rattle.recorded_entries.specs.Good.{IsGoodName, IsGoodDatabase, IsGoodId, Is
 use Rattle.recorded_entries.specs.Kept.{IsKeptTable, AreKept}
 use Rattle.recorded_entries.proofs.Finding.{any_found}
 use Rattle.recorded_entries.proofs.Documents.{good_first}
-use Rattle.recorded_entries.proofs.Deltas.{recorded_good, not_above}
+use Rattle.recorded_entries.proofs.Deltas.{recorded_good}
 use Rattle.recorded_entries.proofs.Definitions.{good_definition, is_false, is_none, at_most}
 use Rattle.recorded_entries.proofs.KeptRows.{HasRoom, IsKeptSingle, AreKeptSingles, IsKeptWrite, no_options_good, single_kept, row_kept}
+use Rattle.history_model.proofs.IndexesHeld.{is_good}
 
 -- ---- changes, each good and keeping the rows
 
@@ -68,10 +69,6 @@ changes_join (x ∷ xs) ys r a b = (a.0, a.1, changes_join xs ys (change_rows x.
 
 unless_good : (old new : Fields) (cs : List RecordedWrite) (r : Rows) → AreGoodChanges cs r → AreGoodChanges (unless_same old new cs) r
 unless_good old new cs r h = elim (same (Object old) (Object new)) as (λ b. AreGoodChanges (elim b [ true ↦ [] | false ↦ cs ]) r) [ true ↦ tt | false ↦ h ]
-
-is_good : (b : Bool) → not b ≡ false → b ≡ true
-is_good true e = refl
-is_good false e = cc
 
 name_by : (o : Option Table) (n : NsName) → ((t : Table) → o ≡ Some t → IsGoodName n) → (not (is_some o) && is_bad_name n) ≡ false → IsGoodName n
 name_by None n h e = e

@@ -30,12 +30,13 @@ use Rattle.update_model.specs.Arguments.{text_in}
 use Rattle.update_model.specs.Updating.{fields_in}
 use Rattle.update_records.proofs.Changed.{field_formed}
 use Rattle.entry_documents.proofs.Documents.{a_name, differ}
-use Rattle.written_levels.proofs.Standing.{field_levels, field_level}
+use Rattle.written_levels.proofs.Standing.{field_levels}
 use Rattle.coll_state.specs.Rows.{Document as Fields}
 use Rattle.coll_state.specs.Definitions.{name_in, definition_name, text_in as label_in}
 use Rattle.history_model.specs.Documents.{options_of, has_field, normal_of, is_key_in, is_key, text_of_value, name_of, is_a_name, is_short_form, is_good_definition}
 use Rattle.recorded_entries.specs.Given.{IsPlainDocument}
 use Rattle.recorded_entries.specs.Good.{IsGoodDefinition}
+use Rattle.entry_model.proofs.Deep.{field_level}
 
 -- ---- the document of a normal form
 

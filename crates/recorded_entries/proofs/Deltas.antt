@@ -1,7 +1,6 @@
 -- What is recorded of an update as a delta is good.
 use Rattle.std.proofs.Common.{◌≡◌, ℕ, ◌≤◌, List, length, Bool, true, false, refl, sym, ap, ◌∙◌, subst, arith}
 use Rattle.std.specs.Prelude.{suc, if◌then◌else◌, nat_lt, Some, None, Result, Ok, Err}
-use Rattle.std.proofs.lemmas.Grind.{common_steps}
 use Rattle.bson_value.specs.declared.value.Value.{Object}
 use Rattle.bson_value.specs.Levels.{levels_of}
 use Rattle.bson_value.specs.Spelling.{document_text}
@@ -28,13 +27,10 @@ use Rattle.update_records.proofs.Once.{touches_once}
 use Rattle.update_records.proofs.Made.{updated_formed}
 use Rattle.update_records.proofs.Writable.{writable}
 use Rattle.update_records.proofs.Written.{form_formed, form_once, written_formed}
-use Rattle.update_bounds.proofs.Small.{updates_are_small}
+use Rattle.update_bounds.proofs.Small.{updates_are_small, not_above}
 use Rattle.written_levels.proofs.Shallow.{written_is_shallow}
 use Rattle.coll_state.specs.Rows.{Document as Fields}
 use Rattle.recorded_entries.specs.Good.{IsGoodDelta}
-
-pub not_above : (a n : ℕ) → nat_lt a n ≡ false → n ≤ a
-not_above a n e = grind (arith, common_steps)
 
 pub recorded_good : (form : Form) (ops doc : Fields) (u : Updated) (r : Form × List Touch) → IsWellFormedDocument ops → IsWellFormedDocument doc → ops_fault ops ≡ None → updated (operators ops) doc ≡ Ok u → recorded form u.doc u.touches ≡ Some r → IsGoodDelta r.0 r.1
 recorded_good form ops doc u r k h s e f = by (nat_lt (length (document_text u.doc)) (length text)) refl f

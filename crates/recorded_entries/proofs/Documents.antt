@@ -15,11 +15,12 @@ use Rattle.doc_path.specs.Played.{id_name}
 use Rattle.coll_state.specs.Rows.{Document as Fields, id_of}
 use Rattle.update_records.proofs.Changed.{field_formed}
 use Rattle.entry_documents.proofs.Sizes.{elements_size}
-use Rattle.written_levels.proofs.Standing.{field_levels, field_level}
+use Rattle.written_levels.proofs.Standing.{field_levels}
 use Rattle.history_model.specs.Documents.{id_before, id_first, is_good_id, is_good_document}
 use Rattle.history_model.proofs.WellFormed.{id_first_formed}
 use Rattle.recorded_entries.specs.Good.{IsGoodId, IsGoodDocument}
 use Rattle.recorded_entries.proofs.Definitions.{at_most}
+use Rattle.entry_model.proofs.Deep.{field_level}
 
 without_size : (k : List ℕ) (fs : Fields) → length (elements_of (without k fs)) ≤ length (elements_of fs)
 without_size k [] = omega arith

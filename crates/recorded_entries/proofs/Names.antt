@@ -11,6 +11,7 @@ use Rattle.history_model.specs.Documents.{is_between, is_word, is_dot, is_reserv
 use Rattle.history_model.specs.Entries.{database}
 use Rattle.recorded_entries.specs.Good.{IsGoodName, IsGoodDatabase}
 use Rattle.recorded_entries.proofs.Definitions.{is_false as not_true, at_most as above}
+use Rattle.update_model.proofs.SameValues.{number}
 
 both_true : (a b : Bool) → not (a && b) ≡ false → (a ≡ true) × (b ≡ true)
 both_true true true e = (refl, refl)
@@ -31,18 +32,15 @@ either_true : (a b : Bool) → (a || b) ≡ true → (P : Type 0) → (a ≡ tru
 either_true true b e P f g = f refl
 either_true false b e P f g = g e
 
-equal_so : (a b : ℕ) → (a == b) ≡ true → a ≡ b
-equal_so a b e = grind (arith, common_steps)
-
 word_small : (c : ℕ) → is_word c ≡ true → c < 128
 word_small c e =
     either_true (is_between 48 57 c || is_between 65 90 c) (is_between 97 122 c || ((c == 95) || (c == 45))) e (c < 128)
     (λ f. either_true (is_between 48 57 c) (is_between 65 90 c) f (c < 128) (λ g. omega (arith, between 48 57 c g)) (λ g. omega (arith, between 65 90 c g)))
     (λ f. either_true (is_between 97 122 c) ((c == 95) || (c == 45)) f (c < 128) (λ g. omega (arith, between 97 122 c g))
-    (λ g. either_true (c == 95) (c == 45) g (c < 128) (λ h. omega (arith, equal_so c 95 h)) (λ h. omega (arith, equal_so c 45 h))))
+    (λ g. either_true (c == 95) (c == 45) g (c < 128) (λ h. omega (arith, number c 95 h)) (λ h. omega (arith, number c 45 h))))
 
 letter_small : (c : ℕ) → (is_word c || is_dot c) ≡ true → c < 128
-letter_small c e = either_true (is_word c) (is_dot c) e (c < 128) (λ f. word_small c f) (λ f. omega (arith, equal_so c 46 f))
+letter_small c e = either_true (is_word c) (is_dot c) e (c < 128) (λ f. word_small c f) (λ f. omega (arith, number c 46 f))
 
 word_no_dot : (c : ℕ) → is_word c ≡ true → c ≡ 46 → ⊥
 word_no_dot c e q = let f : is_word 46 ≡ true = subst (λ (z : ℕ). is_word z ≡ true) q e in cc
@@ -65,7 +63,7 @@ undotted [] e = refl
 undotted (x ∷ t) e = by (x == dot) refl (undotted t (and_parts (is_word x) (list_all is_word t) e).1)
   where
     by : (b : Bool) → (x == dot) ≡ b → list_any (λ b. b == dot) t ≡ false → (b || list_any (λ b. b == dot) t) ≡ false
-    by true q r = absurd (word_no_dot x (and_parts (is_word x) (list_all is_word t) e).0 (equal_so x dot q))
+    by true q r = absurd (word_no_dot x (and_parts (is_word x) (list_all is_word t) e).0 (number x dot q))
     by false q r = r
 
 some_letter : (low high : ℕ) (t : List ℕ) → is_between (suc low) high (length t) ≡ true → t ≡ [] → ⊥

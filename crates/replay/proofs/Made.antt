@@ -104,10 +104,6 @@ module _ {A : Type 0} (g : A → ℕ) where
 
 -- ---- answers
 
-pub on_err : {A B : Type 0} {T E : Type 0} (r : Result T E) → (A → B) → OnErr r A → OnErr r B
-on_err (Ok x) h a = tt
-on_err (Err e) h a = h a
-
 pub err_of : {B : Type 0} {T E : Type 0} (r : Result T E) → B → OnErr r B
 err_of (Ok x) b = tt
 err_of (Err e) b = b

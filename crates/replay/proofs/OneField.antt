@@ -30,6 +30,7 @@ use Rattle.coll_state.specs.Kept.{shown, shown_in, is_short, Look, bytes, fields
 use Rattle.coll_state.specs.Rows.{Document, Rows}
 use Rattle.replay.specs.Splicing.{SetsField, IsThere, IsPut, IsPlayed}
 use Rattle.replay.proofs.Ids.{put_object}
+use Rattle.coll_state.proofs.Shortness.{at_most}
 
 set_here : (f : Form) (k : List ℕ) (v : Value) (d : Document) → set_last f (name k) v (Object d) ≡ Object (put_field k v d)
 set_here V1 k v d = rw (shape-object d) (put_object d k v)
@@ -74,9 +75,6 @@ short_by d false e = absurd cc
 second : (a b : Bool) → (a && b) ≡ true → b ≡ true
 second true b e = e
 second false b e = absurd cc
-
-at_most : (m n : ℕ) → nat_le m n ≡ true → m ≤ n
-at_most m n e = grind arith
 
 -- it is the one that is there, and has few levels
 pub record IsShown (v : View) (p : Option Document) : Type 0 where

@@ -1,6 +1,6 @@
 -- What a taking makes of a state, and of what was made of the takings before it.
 use Rattle.std.proofs.Common.{◌≡◌, ℕ, Bool, true, false, cond, List, [], length, refl, sym, ap, ◌∙◌}
-use Rattle.std.specs.Prelude.{Option, Some, None, Result, Ok, Err, OnOk, OnErr, IsOk, IsErr, not, ◌&&◌, ◌==◌, is_some, option_map, fold}
+use Rattle.std.specs.Prelude.{Option, Some, None, Result, Ok, Err, OnOk, OnErr, IsOk, IsErr, not, ◌&&◌, ◌==◌, is_some, fold}
 use Rattle.std.specs.BTreeSet.{insert_key}
 use Rattle.std.specs.Result.{result_unwrap_or}
 use Rattle.std.specs.FinMap as map
@@ -32,6 +32,7 @@ use Rattle.restore_plan.specs.declared.plan.Plan.{Plan}
 use Rattle.restore_plan.specs.Base.{ns_of, is_of_base, named_step, base_step, described_in, made, document_taken, has_id, normal_forms, options_in, definitions_in, oplog_reading, kept_in, entries_in, metadata_fault, id_fault, entry_fault, bad_at}
 use Rattle.restore_plan.proofs.Tests.{both, no_length}
 use Rattle.restore_plan.specs.Taken.{Contents, plays_early, with_entry, ended_with, with_collection, with_taking, unless_bad, and_taking}
+use Rattle.index_build.proofs.Alike.{some_mapped}
 
 -- ---- one taking
 
@@ -91,12 +92,8 @@ missing : (s : State) (n : NsName) (c : Option Collection) (b : Bool) → is_som
 missing s n None b e f = refl
 missing s n (Some c) b e f = absurd cc
 
-some_same : {A B : Type 0} (f : A → B) (o : Option A) → is_some (option_map f o) ≡ is_some o
-some_same f None = refl
-some_same f (Some x) = refl
-
 has_is : (s : Rows) (n : NsName) → is_some (map.get (state_of s) n) ≡ is_some (map.get s.tables n)
-has_is s n = ap is_some (get_collection s n) ∙ some_same collection_of (map.get s.tables n)
+has_is s n = ap is_some (get_collection s n) ∙ some_mapped collection_of (map.get s.tables n)
 
 there_is : (s : State) (n : NsName) → map.contains_key s n ≡ true → named_step n s (end n) ≡ s
 there_is s n e = there s n (map.get s n) true e refl

@@ -13,14 +13,14 @@ use Rattle.json_tree.specs.declared.tree.Tree.{Tree}
 use Rattle.state_model.specs.Keys.{Key}
 use Rattle.state_model.specs.States.{State, Collection}
 use Rattle.state_model.specs.Shown.{ShownCollection, shown_document, shown_collection, shown as shown_state}
-use Rattle.state_model.proofs.Shown.{answers_on}
+use Rattle.state_model.proofs.Shown.{answers_on, some_shown}
 use Rattle.index_keys.specs.Keys.{Fields}
 use Rattle.index_build.specs.Documents.{fields, fields_at, documents}
 use Rattle.index_build.specs.Numbers.{number, numbers, numbers_of, numbers_in, counts}
 use Rattle.document_lines.specs.declared.form.ListForm.{ListForm}
 use Rattle.document_lines.specs.Lines.{line, shown, in_order, document_line}
 use Rattle.state_listing.specs.Listing.{head_text, index_line, indexes_text, collection_text, listing}
-use Rattle.index_build.proofs.Alike.{some_shown, same_names}
+use Rattle.index_build.proofs.Alike.{same_names}
 
 -- ---- documents
 

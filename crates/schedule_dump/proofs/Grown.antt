@@ -1,5 +1,5 @@
 -- What steps write grows, and a dump that has failed stays as it is.
-use Rattle.std.proofs.Common.{◌≡◌, ℕ, List, [], ◌∷◌, ◌++◌, true, false, not, refl, sym, ap, ◌∙◌, subst, append_assoc, append-nil, Option, Some, None, Result, Ok, Err, inl, inr}
+use Rattle.std.proofs.Common.{◌≡◌, ℕ, List, [], ◌∷◌, ◌++◌, true, false, not, refl, sym, ap, ◌∙◌, subst, append_assoc, Option, Some, None, Result, Ok, Err, inl, inr}
 use Rattle.std.specs.Prelude.{⊤, ◌⊎◌, ◌||◌, is_some}
 use Rattle.bson_value.specs.declared.value.Ts.{Ts}
 use Rattle.schedule_model.specs.declared.line.Line.{Line}
@@ -10,10 +10,7 @@ use Rattle.history_model.specs.Commands.{applied}
 use Rattle.history_model.specs.Runs.{Run, DumpState, Outcome, Done, Renamed, Rolled, Refusal, NotNow, on_line, or_refused, after_line, after_lines, in_dump, still, all_ended, marked, marked_by, renamed_since, is_gone, rolled, dumped, commanded, begun, finished}
 use Rattle.history_model.proofs.WholeRun.{finished_lines}
 use Rattle.dump_run.specs.Calls.{steps_text}
-use Rattle.dump_run.proofs.Repeating.{Grows, IsTurn, taken}
-
-grows_same : (r s : Run) → s.steps ≡ r.steps → Grows r s
-grows_same r s e = ([], ap steps_text e ∙ sym (append-nil (steps_text r.steps)))
+use Rattle.dump_run.proofs.Repeating.{Grows, IsTurn, taken, grows_same}
 
 grows_two : (r s t : Run) → Grows r s → Grows s t → Grows r t
 grows_two r s t a b = (a.0 ++ b.0, b.1 ∙ (ap (λ (z : List ℕ). z ++ b.0) a.1 ∙ append_assoc (steps_text r.steps) a.0 b.0))

@@ -219,7 +219,7 @@ within (line ∷ ls) r s n end l m e =
     let rest = within ls b.next s (n + 1) (end + length line) k.bytes (omega (arith, k.lines)) b.then_ in
     (omega (arith, rest.0), omega (arith, rest.1))
 
-length-map : (ls : List (List ℕ)) → length (map content ls) ≡ length ls
+pub length-map : (ls : List (List ℕ)) → length (map content ls) ≡ length ls
 length-map [] = refl
 length-map (l ∷ ls) = ap suc (length-map ls)
 

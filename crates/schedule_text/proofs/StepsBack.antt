@@ -1,5 +1,5 @@
 -- The lines of the grammar are read.
-use Rattle.std.proofs.Common.{◌≡◌, ℕ, suc, ◌+◌, ◌≤◌, Bool, true, false, cond, List, [], ◌∷◌, ◌++◌, length, refl, sym, ap, ◌∙◌, arith, subst}
+use Rattle.std.proofs.Common.{◌≡◌, ℕ, ◌+◌, ◌≤◌, Bool, true, false, cond, List, [], ◌∷◌, ◌++◌, length, refl, sym, ap, ◌∙◌, arith, subst}
 use Rattle.std.specs.Prelude.{nat_lt, map, Option, Some, None, Ok}
 use Rattle.std.specs.Str.{is_utf8}
 use Rattle.std.proofs.lemmas.Bool.Decides.{nat_tests}
@@ -25,7 +25,7 @@ use Rattle.schedule_text.proofs.OperandTexts.{binds}
 use Rattle.schedule_text.proofs.Said.{Says, stands_in}
 use Rattle.schedule_text.proofs.SaidBack.{said_is}
 use Rattle.schedule_text.proofs.LineEnds.{lines_are_read, total, total_is_length}
-use Rattle.schedule_text.proofs.Steps.{Transaction}
+use Rattle.schedule_text.proofs.Steps.{Transaction, length-map}
 
 -- ---- a line that says something isn't passed over
 
@@ -176,10 +176,6 @@ admits_start statements.Begin w = refl
 admits_start statements.Commit w = absurd cc
 admits_start statements.Abort w = absurd cc
 
-length-contents : (ls : List (List ℕ)) → length (map content ls) ≡ length ls
-length-contents [] = refl
-length-contents (l ∷ ls) = ap suc (length-contents ls)
-
 module _ (reads : JsonIsRead) where
   line_said : (g : Bool) (c : ℕ) (b : Option ℕ) (acc : List NumberedLine) (t : Transaction) (n end : ℕ) (line l : List ℕ) (s : Statement) → end ≤ 67108864 → n ≤ 1048576 → l ≡ content line
       → is_utf8 l ≡ true → Says l s → stands_in s (cond g (context_in t) contexts.Start) ≡ true → after_line (reader g c b acc t) n end line ≡ Ok (behind (reader true c b acc t) n s)
@@ -282,7 +278,7 @@ module _ (reads : JsonIsRead) where
   unfolding schedule_of
   schedules_are_read text s i =
       let e = lines_are_read i.are_lines in
-      let few = length-contents (whole_lines text) in
+      let few = length-map (whole_lines text) in
       let same = ap length e in
       let k = start_read i.are_read (whole_lines text) 1 0 (ap (λ (x : List (List ℕ)). numbered 1 x) (sym e)) (omega (arith, total_is_length text, i.few_bytes)) (omega (arith, few, same, i.few_lines)) in
       rw (k.read, k.cap, k.bytes, k.lines) refl

@@ -1,7 +1,7 @@
 -- The texts of the listing's parts.
 use Rattle.std.proofs.lemmas.List.{length-map}
-use Rattle.std.proofs.Common.{◌≡◌, ℕ, Bool, true, false, cond, List, [], ◌∷◌, ◌++◌, length, refl, sym, ap, ◌∙◌, append_assoc}
-use Rattle.std.specs.Prelude.{Option, Some, None, option_map, ◌&&◌, T, map as each}
+use Rattle.std.proofs.Common.{◌≡◌, ℕ, false, cond, List, [], ◌∷◌, ◌++◌, length, refl, sym, ap, ◌∙◌, append_assoc}
+use Rattle.std.specs.Prelude.{Option, Some, None, option_map, T, map as each}
 use Rattle.std.specs.List.{flat_map}
 use Rattle.std.specs.FinMap as map
 use Rattle.std.specs.FinMap.Entries.{below_all}
@@ -27,18 +27,11 @@ use Rattle.document_lines.specs.declared.form.ListForm.{ListForm}
 use Rattle.document_lines.specs.Lines.{document_line}
 use Rattle.state_listing.specs.Listing.{head_text, index_line, indexes_text, collection_text}
 use Rattle.state_listing.specs.Listed.{index_lines, document_lines}
-use Rattle.index_build.proofs.Names.{less_of}
+use Rattle.index_build.proofs.Names.{less_of, first_of}
 use Rattle.index_build.proofs.Walks.{fields_object}
+use Rattle.index_build.proofs.Built.{second}
 
 -- ---- what stands among the entries of a map is found there
-
-first_of : (a b : Bool) → T (a && b) → T a
-first_of true b t = tt
-first_of false b t = t
-
-second_of : (a b : Bool) → T (a && b) → T b
-second_of true b t = t
-second_of false b t = absurd t
 
 abbrev Entries : Type 0
 Entries = List (Key × Tree)
@@ -58,13 +51,13 @@ found_later x es [] t = refl
 found_later x es (u ∷ us) t =
     let e = apart x.0 u.0 (less_of (key_cmp x.0 u.0) (first_of (is_lt (key_cmp x.0 u.0)) (below_all key_cmp x.0 us) t)) in
     let here : map.find key_cmp u.0 (x ∷ es) ≡ map.find key_cmp u.0 es = ap (λ b. cond b (Some x.1) (map.find key_cmp u.0 es)) e in
-    λ i. here i ∷ found_later x es us (second_of (is_lt (key_cmp x.0 u.0)) (below_all key_cmp x.0 us) t) i
+    λ i. here i ∷ found_later x es us (second (is_lt (key_cmp x.0 u.0)) (below_all key_cmp x.0 us) t) i
 
 all_found : (es : Entries) → T (map.is_sorted key_cmp es) → finds es es ≡ there es
 all_found [] t = refl
 all_found (x ∷ es) t =
     let here : map.find key_cmp x.0 (x ∷ es) ≡ Some x.1 = ap (λ b. cond b (Some x.1) (map.find key_cmp x.0 es)) (key_refl x.0) in
-    let later = found_later x es es (first_of (below_all key_cmp x.0 es) (map.is_sorted key_cmp es) t) ∙ all_found es (second_of (below_all key_cmp x.0 es) (map.is_sorted key_cmp es) t) in
+    let later = found_later x es es (first_of (below_all key_cmp x.0 es) (map.is_sorted key_cmp es) t) ∙ all_found es (second (below_all key_cmp x.0 es) (map.is_sorted key_cmp es) t) in
     λ i. here i ∷ later i
 
 -- ---- the lines of indexes

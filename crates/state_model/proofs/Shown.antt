@@ -109,7 +109,7 @@ same_options looks None (Some c) e h = cc
 same_options looks (Some c) None e h = cc
 same_options looks (Some c) (Some k) e h = ap Some (same_colls looks c k h)
 
-some_shown : (c k : ShownCollection) → Some c ≡ Some k → c ≡ k
+pub some_shown : (c k : ShownCollection) → Some c ≡ Some k → c ≡ k
 some_shown c k e = cc
 
 options_same : AlikeLooksTheSame → (o u : Option Collection) → option_map shown_collection o ≡ option_map shown_collection u → (option_map (λ (c : Collection). here) o ≡ option_map (λ (c : Collection). here) u) × ((p : Inner) → stands_at o p ≡ stands_at u p)

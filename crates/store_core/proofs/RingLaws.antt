@@ -5,6 +5,7 @@ use Rattle.capped_oplog.specs.Ring.{Entry, pushed, trimmed_down, after_pushes, F
 use Rattle.history_model.specs.Entries.{OplogEntry}
 use Rattle.history_model.specs.Stages.{Caps, Oplog, kept, turned, ring_entry}
 use Rattle.history_model.specs.Laws.{OplogIsRing}
+use Rattle.store_log.proofs.Pushes.{after_append}
 
 -- ---- two ends of a list that are as long
 
@@ -35,14 +36,10 @@ whole_longest cap limit es h = record { suffix = ([], refl); fits = h; longest =
     shorter : (others : List Entry) → IsSuffix others es → length others ≤ length es
     shorter others s = (let n = ap length s.1 ∙ length-append s.0 others in omega (arith, n))
 
-pushes_more : (cap : ℕ) (limit : Option ℕ) (es xs : List Entry) (x : Entry) → after_pushes cap limit es (xs ++ x ∷ []) ≡ trimmed_down limit (pushed cap (after_pushes cap limit es xs) x)
-pushes_more cap limit es [] x = refl
-pushes_more cap limit es (y ∷ ys) x = pushes_more cap limit (trimmed_down limit (pushed cap es y)) ys x
-
 pub pushed_longest : KeepsLongest → (cap : ℕ) (limit : Option ℕ) (es : List Entry) (x : Entry) → 0 < cap → Fits cap limit es → IsLongest cap limit (es ++ x ∷ []) (trimmed_down limit (pushed cap es x))
 pushed_longest law cap limit es x p h =
     (let same : after_pushes cap limit [] es ≡ es = one_longest cap limit es (after_pushes cap limit [] es) es (law cap limit es p) (whole_longest cap limit es h) in
-    subst (IsLongest cap limit (es ++ x ∷ [])) (pushes_more cap limit [] es x ∙ ap (λ (z : List Entry). trimmed_down limit (pushed cap z x)) same) (law cap limit (es ++ x ∷ []) p))
+    subst (IsLongest cap limit (es ++ x ∷ [])) (after_append cap limit [] es x ∙ ap (λ (z : List Entry). trimmed_down limit (pushed cap z x)) same) (law cap limit (es ++ x ∷ []) p))
 
 -- ---- the oplog of a stage, with one entry more
 

@@ -11,14 +11,11 @@ use Rattle.history_model.specs.Documents.{is_good_definition, normal_of, is_shor
 use Rattle.history_model.specs.Refusals.{first_of, index_rows}
 use Rattle.history_model.proofs.Accepted.{all_false}
 use Rattle.store_core.specs.Applying.{refusal_or}
+use Rattle.history_model.proofs.IndexesHeld.{is_good}
 
 pub not_refused : (o : Option Refused) (u : Unit {0}) → refusal_or o ≡ Ok u → o ≡ None
 not_refused None u e = refl
 not_refused (Some r) u e = cc
-
-pub not_not : (b : Bool) → not b ≡ false → b ≡ true
-not_not true e = refl
-not_not false e = cc
 
 at_the_end : (p q r : Bool) → (p && (q && (false && r))) ≡ true → ⊥
 at_the_end true true r e = cc
@@ -35,4 +32,4 @@ good_has_form d e f =
     at_the_end p q r (ap (λ (o : Option Tree). p && (q && (is_short_form o && r))) (sym f) ∙ e))
 
 pub form_there : (n : NsName) (d : Fields) (r : Rows) → first_of (index_rows n d r) ≡ None → normal_of d ≡ None → ⊥
-form_there n d r e f = good_has_form d (not_not (is_good_definition d) (all_false (index_rows n d r) e).1.1.1.1.0) f
+form_there n d r e f = good_has_form d (is_good (is_good_definition d) (all_false (index_rows n d r) e).1.1.1.1.0) f

@@ -2,11 +2,8 @@
 use Rattle.std.proofs.Common.{◌≡◌, ℕ, ◌<◌, ◌≤◌, List, [], ◌∷◌, ◌++◌, length, refl, sym, ap, ◌∙◌, subst, arith, length-append}
 use Rattle.std.specs.Prelude.{Option}
 use Rattle.capped_oplog.specs.Ring.{Entry, pushed, trimmed_down, after_pushes, Fits, IsSuffix, IsLongest}
-use Rattle.capped_oplog.proofs.Longest.{keeps_longest}
+use Rattle.capped_oplog.proofs.Longest.{keeps_longest, tail_is}
 use Rattle.store_log.specs.Logged.{IsLast}
-
-tail_is : (x y : Entry) (xs ys : List Entry) → x ∷ xs ≡ y ∷ ys → xs ≡ ys
-tail_is x y xs ys p = cc
 
 -- two ends of one length are one
 same_end : (all xs ys : List Entry) → IsSuffix xs all → IsSuffix ys all → length xs ≡ length ys → xs ≡ ys
@@ -32,7 +29,7 @@ all_fit cap limit es pos f = longest_once cap limit es (after_pushes cap limit [
     no_longer : (zs : List Entry) → IsSuffix zs es → length zs ≤ length es
     no_longer zs s = omega (arith, ap length s.1, length-append s.0 zs)
 
-after_append : (cap : ℕ) (limit : Option ℕ) (es xs : List Entry) (x : Entry) → after_pushes cap limit es (xs ++ x ∷ []) ≡ trimmed_down limit (pushed cap (after_pushes cap limit es xs) x)
+pub after_append : (cap : ℕ) (limit : Option ℕ) (es xs : List Entry) (x : Entry) → after_pushes cap limit es (xs ++ x ∷ []) ≡ trimmed_down limit (pushed cap (after_pushes cap limit es xs) x)
 after_append cap limit es [] x = refl
 after_append cap limit es (y ∷ ys) x = after_append cap limit (trimmed_down limit (pushed cap es y)) ys x
 

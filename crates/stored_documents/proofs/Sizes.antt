@@ -13,6 +13,7 @@ use Rattle.doc_path.specs.Played.{id_name}
 use Rattle.history_model.specs.Documents.{id_before, id_first, is_good_id, is_good_document}
 use Rattle.bson_value.proofs.Child.{same_name}
 use Rattle.stored_documents.specs.Laws.{IdFirstKeepsId, IdFirstIsNoLarger, GoodHasId, GoodIsShort}
+use Rattle.coll_state.proofs.Shortness.{join}
 
 pub first_id : IdFirstKeepsId
 first_id d = by (id_of d) refl
@@ -104,12 +105,8 @@ first_no_larger d = by (id_of d) refl
 abbrev Fits : Document → Type 0
 Fits d = (length (document_text d) ≤ 16777216) × (levels_of d ≤ 100)
 
-pub both : (a b : Bool) → a ≡ true → b ≡ true → (a && b) ≡ true
-both true b e f = f
-both false b e f = e
-
 short : (d : Document) → Fits d → is_short d ≡ true
-short d h = both (nat_le (length (document_text d)) 16777216) (nat_le (levels_of d) 100) (le-leb (length (document_text d)) 16777216 h.0) (le-leb (levels_of d) 100 h.1)
+short d h = join (nat_le (length (document_text d)) 16777216) (nat_le (levels_of d) 100) (le-leb (length (document_text d)) 16777216 h.0) (le-leb (levels_of d) 100 h.1)
 
 pub good_short : GoodIsShort
 unfolding is_good_document

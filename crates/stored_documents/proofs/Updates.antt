@@ -44,7 +44,7 @@ use Rattle.history_model.specs.Refusals.{accepted}
 use Rattle.history_model.proofs.WellFormed.{accepted_ok}
 use Rattle.stored_documents.specs.Laws.{UpdateKeepsId, UpdateIsShort}
 use Rattle.stored_documents.proofs.Steps.{Keeps, stays, then_keeps, changed_keeps}
-use Rattle.stored_documents.proofs.Sizes.{both}
+use Rattle.coll_state.proofs.Shortness.{join}
 
 -- ---- each operator
 
@@ -207,7 +207,7 @@ end_short large d = by large (nat_lt byte_limit (length (document_text d))) (nat
     by true y z e f g = cc
     by false true z e f g = cc
     by false false true e f g = cc
-    by false false false e f g = both (nat_le (length (document_text d)) byte_limit) (nat_le (levels_of d) level_limit) (not_more byte_limit (length (document_text d)) e) (not_more level_limit (levels_of d) f)
+    by false false false e f g = join (nat_le (length (document_text d)) byte_limit) (nat_le (levels_of d) level_limit) (not_more byte_limit (length (document_text d)) e) (not_more level_limit (levels_of d) f)
 
 end_good : (large : Bool) (v : Value) → GoodOutcome v (ended (refusal_at_end large (fields_of v)))
 end_good large v = by (refusal_at_end large (fields_of v)) refl

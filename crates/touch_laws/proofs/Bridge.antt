@@ -16,13 +16,14 @@ use Rattle.doc_path.specs.Touch.{key_of, Touch, limit, takes, or_else, walk_by, 
 use Rattle.doc_path.specs.Played.{is_far, any_far, starts_at_id, left_at, is_left, too_long, played, way_and_last, touch_by, touch_at}
 use Rattle.doc_path.specs.Ways.{leads, under, value_from, value_in, changed_along, changed_at, HasRoom}
 use Rattle.doc_path.specs.declared.parts.Rule.TheVariants as Rule
-use Rattle.doc_path.proofs.Steps.{shape-object, resized_array, nth-slice_get, unset_array, set_array}
+use Rattle.doc_path.proofs.Steps.{shape-object, nth-slice_get, unset_array, set_array}
 use Rattle.doc_path.proofs.Down.{under-index}
-use Rattle.doc_path.proofs.Emptied.{one_part, there_or_not, value_in-append_none}
+use Rattle.doc_path.proofs.Emptied.{one_part, there_or_not, value_in-append_none, resized}
 use Rattle.doc_path.proofs.Last.{split-append, walk-append}
-use Rattle.doc_path.proofs.Changed.{child-put_led, first_step, led_to, under-led, along_on, along_there, value_in-append, changed_at-append}
+use Rattle.doc_path.proofs.Changed.{child-put_led, first_step, led_to, under-led, along_on, along_there, value_in-append, changed_at-append, set_here}
 use Rattle.touch_laws.specs.Agree.{SetDone, UnsetDone, ResizeDone, Done}
 use Rattle.doc_path.proofs.Played.{or_no, left_by, changed_by}
+use Rattle.touch_laws.proofs.Cover.{or_false}
 
 -- ---- one part
 
@@ -36,12 +37,9 @@ near_leads (index m) an_array n = grind (arith, common_steps)
 near_leads (index m) (a_leaf c) n = refl
 near_leads (index m) (a_code t) n = refl
 
-both_no : (a b : Bool) → a || b ≡ false → (a ≡ false) × (b ≡ false)
+pub both_no : (a b : Bool) → a || b ≡ false → (a ≡ false) × (b ≡ false)
 both_no true b e = cc
 both_no false b e = (refl, e)
-
-no_both : (a b : Bool) → a ≡ false → b ≡ false → a || b ≡ false
-no_both a b x y = rw (x, y) refl
 
 far_ends : (ws : List Part) (p : Part) → any_far (ws ++ (p ∷ [])) ≡ any_far ws || is_far p
 far_ends [] p = or_no (is_far p)
@@ -77,7 +75,7 @@ same_change ws p c v a b = ap (λ (g : Value → Value). walk_by (takes V2) None
 plain_played : (ws : List Part) (p : Part) (c : Change) (v : Value) → left_at (ws ++ (p ∷ [])) ≡ false → too_long c ≡ false → changed_along ws p c v ≡ played V2 (touch_by (ws, p) c) v
 plain_played ws p c v a b =
     let n = near_ends ws p (both_no (starts_at_id (ws ++ (p ∷ []))) (any_far (ws ++ (p ∷ []))) a).1 in
-    let l : is_left (touch_by (ws, p) c) ≡ false = left_by ws p c ∙ no_both (left_at (ws ++ (p ∷ []))) (too_long c) a b in
+    let l : is_left (touch_by (ws, p) c) ≡ false = left_by ws p c ∙ or_false (left_at (ws ++ (p ∷ []))) (too_long c) a b in
     rw l (sym (same_change ws p c v n.0 n.1) ∙ changed_by V2 ws p c v)
 
 pub plain_is_played : (ps : List Part) (c : Change) (v : Value) → (ps ≡ [] → ⊥) → left_at ps ≡ false → too_long c ≡ false → changed_at ps c v ≡ played V2 (touch_at ps c) v
@@ -115,9 +113,6 @@ set_fits (p ∷ ps) a v n r =
     let l = (way_and_last p ps).1 in
     led_way (way_and_last p ps).0 (SetFits V2 l) v r.0 h.0 r.1 (near_leads l (shape r.0) h.1 ∙ r.2.0, r.2.1)
 
-set_here : (p : Part) (a c : Value) → leads p (shape c) ≡ true → set_by leads p a c ≡ put c (key_of p) a
-set_here p a c t = rw t refl
-
 set_made : (p : Part) (a c : Value) → is_far p ≡ false → leads p (shape c) ≡ true → SetDone V2 p a (set_by leads p a c)
 set_made p a c n t =
     subst (SetDone V2 p a) (sym (set_here p a c t))
@@ -154,10 +149,7 @@ unset_is_done ws k fs v n e =
 
 -- ---- a new length
 
-resized : (n : ℕ) (vs : List Value) → resize_here n (Array vs) ≡ Array (sized n vs)
-resized n vs = sym (resized_array n vs (sized n vs) refl)
-
-sized_long : (n : ℕ) (vs : List Value) → length (sized n vs) ≡ n
+pub sized_long : (n : ℕ) (vs : List Value) → length (sized n vs) ≡ n
 sized_long zero vs = refl
 sized_long (suc n) [] = ap suc (sized_long n [])
 sized_long (suc n) (v ∷ vs) = ap suc (sized_long n vs)

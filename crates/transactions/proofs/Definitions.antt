@@ -1,6 +1,6 @@
 -- Definitions under their names are those that a collection has.
 use Rattle.std.proofs.Common.{◌≡◌, List, [], ◌∷◌, Bool, true, false, cond, refl, sym, ap, ◌∙◌, Option, Some, None}
-use Rattle.std.specs.Prelude.{◌&&◌, fold, map as each, T}
+use Rattle.std.specs.Prelude.{fold, map as each, T}
 use Rattle.std.specs.Ordering.{is_lt, is_eq}
 use Rattle.std.specs.declared.cmp.Ordering.{Ordering}
 use Rattle.std.specs.declared.cmp.Ordering.TheVariants.{Less, Equal, Greater}
@@ -12,6 +12,7 @@ use Rattle.state_model.proofs.Keys.{key_is}
 use Rattle.state_model.proofs.Maps.{key_at_insert, key_map_same}
 use Rattle.coll_state.specs.Changes.{under_names}
 use Rattle.coll_state.specs.Definitions.{definition_name}
+use Rattle.history_model.proofs.CopiedOut.{both}
 
 abbrev Map : Type 0
 Map = map.FinMap key_cmp Tree
@@ -27,10 +28,6 @@ abbrev or_else : Option Tree → Option Tree → Option Tree
 or_else None o = o
 or_else (Some t) o = Some t
 
-both_T : (a b : Bool) → T (a && b) → T a × T b
-both_T true b h = (tt, h)
-both_T false b h = absurd h
-
 lower_none : (o : Ordering) (t : Tree) (rest : Option Tree) → T (is_lt o) → rest ≡ None → cond (is_eq o) (Some t) rest ≡ None
 lower_none Less t rest h e = e
 lower_none Equal t rest h e = absurd h
@@ -38,12 +35,12 @@ lower_none Greater t rest h e = absurd h
 
 below_none : (k : Key) (es : Entries) → T (below_all key_cmp k es) → map.find key_cmp k es ≡ None
 below_none k [] h = refl
-below_none k (e ∷ es) h = (let b = both_T (is_lt (key_cmp k e.0)) (below_all key_cmp k es) h in lower_none (key_cmp k e.0) e.1 (map.find key_cmp k es) b.0 (below_none k es b.1))
+below_none k (e ∷ es) h = (let b = both (is_lt (key_cmp k e.0)) (below_all key_cmp k es) h in lower_none (key_cmp k e.0) e.1 (map.find key_cmp k es) b.0 (below_none k es b.1))
 
 found_all : (m : Map) (es : Entries) (q : Key) → T (map.is_sorted key_cmp es) → map.get (insert_all m es) q ≡ or_else (map.find key_cmp q es) (map.get m q)
 found_all m [] q h = refl
 found_all m (e ∷ es) q h =
-    (let b = both_T (below_all key_cmp e.0 es) (map.is_sorted key_cmp es) h in
+    (let b = both (below_all key_cmp e.0 es) (map.is_sorted key_cmp es) h in
     found_all (map.insert m e.0 e.1) es q b.1 ∙ (ap (or_else (map.find key_cmp q es)) (key_at_insert m e.0 e.1 q) ∙ by (same_key q e.0) refl (below_none e.0 es b.0)))
   where
     by : (c : Bool) → same_key q e.0 ≡ c → map.find key_cmp e.0 es ≡ None → or_else (map.find key_cmp q es) (cond c (Some e.1) (map.get m q)) ≡ or_else (cond c (Some e.1) (map.find key_cmp q es)) (map.get m q)

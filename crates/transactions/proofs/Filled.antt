@@ -11,7 +11,7 @@ use Rattle.coll_state.specs.Rows.{Document, Row, Rows, Table, Rising, AreSound, 
 use Rattle.coll_state.specs.Walks.{looks}
 use Rattle.history_model.specs.Refusals.{is_there, rows_in, definitions_in}
 use Rattle.command_refusals.specs.Keyed.{AllKeyed, AreKeyed, documents, looked_at}
-use Rattle.command_refusals.proofs.Putting.{all_looked}
+use Rattle.command_refusals.proofs.Putting.{all_looked, looked_rows}
 use Rattle.transactions.specs.Scratch.{Others, IsFilled}
 use Rattle.transactions.proofs.Keys.{put_keyed_rows}
 use Rattle.transactions.proofs.Kept.{the_table}
@@ -112,10 +112,6 @@ put_last next k d (r ∷ rs) h = by (same_key k r.key) h (put_last next k d rs)
     by false g rest = ap (λ (ds : List Document). r.document ∷ ds) (rest g)
 
 -- ---- the copy
-
-looked_rows : (rs : List Row) → looked_at (looks rs) ≡ documents rs
-looked_rows [] = refl
-looked_rows (r ∷ rs) = ap (λ (ds : List Document). r.document ∷ ds) (looked_rows rs)
 
 -- so many documents were copied, and these are left
 pub record IsFilling (n : NsName) (old now : Rows) (left whole : List Document) (copied : ℕ) : Type 0 where

@@ -1,5 +1,5 @@
 -- What the code makes of a command that isn't refused is what the command makes.
-use Rattle.std.proofs.Common.{◌≡◌, List, [], ◌∷◌, Bool, true, false, not, refl, sym, ap, ◌∙◌, subst, length, Option, Some, None, Ok}
+use Rattle.std.proofs.Common.{◌≡◌, List, [], ◌∷◌, Bool, true, false, refl, sym, ap, ◌∙◌, subst, length, Option, Some, None, Ok}
 use Rattle.std.specs.Prelude.{◌≤◌, nat_le, is_some, IfSome}
 use Rattle.std.proofs.lemmas.Bool.{leb-true, and_parts}
 use Rattle.std.specs.FinMap as map
@@ -35,6 +35,7 @@ use Rattle.stored_documents.proofs.Updates.{keeps_id, stays_short}
 use Rattle.transactions.specs.declared.recorded.Recorded.{Recorded}
 use Rattle.transactions.specs.Transactions.{write_by, IsGood}
 use Rattle.transactions.specs.Steps.{changes_nothing, update_made, IsPut, IsMade, IsStep}
+use Rattle.history_model.proofs.IndexesHeld.{is_good}
 
 same_some : {A : Type 0} (x y : A) → Some x ≡ Some y → x ≡ y
 same_some x y e = cc
@@ -64,15 +65,11 @@ put_made f k n d i x old new p t s e g = record {
 
 -- ---- what isn't refused
 
-not_false : (b : Bool) → not b ≡ false → b ≡ true
-not_false true e = refl
-not_false false e = cc
-
 pub inserted_good : (n : NsName) (d : Document) (r : Rows) → document_refusal false (Insert n d) r ≡ None → is_good_document d ≡ true
-inserted_good n d r h = not_false (is_good_document d) (all_false (document_rows false (Insert n d) r) h).1.1.1.1.1.0
+inserted_good n d r h = is_good (is_good_document d) (all_false (document_rows false (Insert n d) r) h).1.1.1.1.1.0
 
 pub replaced_good : (n : NsName) (d : Document) (r : Rows) → document_refusal false (Replace n d) r ≡ None → is_good_document d ≡ true
-replaced_good n d r h = not_false (is_good_document d) (all_false (document_rows false (Replace n d) r) h).1.1.1.1.1.0
+replaced_good n d r h = is_good (is_good_document d) (all_false (document_rows false (Replace n d) r) h).1.1.1.1.1.0
 
 pub good_named : (d : Document) → is_good_document d ≡ true → is_some (id_of (id_first d)) ≡ true
 good_named d g = ap (λ (o : Option Value). is_some o) (first_id d) ∙ good_id d g

@@ -1,5 +1,5 @@
 -- What one operator does: nothing, or another value stands at its path, and at paths that don't conflict all is as before.
-use Rattle.std.proofs.Common.{◌≡◌, ℕ, zero, suc, ◌+◌, ◌<◌, ◌≤◌, List, [], ◌∷◌, ◌++◌, length, Bool, true, false, refl, sym, ap, ◌∙◌, subst, arith, Option, Some, None, inl, inr}
+use Rattle.std.proofs.Common.{◌≡◌, ℕ, ◌+◌, ◌<◌, ◌≤◌, List, [], ◌∷◌, ◌++◌, length, Bool, true, false, refl, sym, ap, ◌∙◌, subst, arith, Option, Some, None, inl, inr}
 use Rattle.std.specs.Prelude.{⊤, ◌||◌, ◌⊎◌, not, nat_lt, if◌then◌else◌}
 use Rattle.std.specs.List.{list_any}
 use Rattle.std.proofs.lemmas.List.{length-append}
@@ -27,6 +27,7 @@ use Rattle.update_model.specs.Acts.{Act, Steps, Refused, Oversized, is_far, made
 use Rattle.update_model.proofs.SameValues.{same_equal}
 use Rattle.unchanged_updates.proofs.Beside.{IsFirm, Beside, Framed, framed}
 use Rattle.unchanged_updates.proofs.Placed.{Placed, placed, firm_if_there}
+use Rattle.touch_laws.proofs.Bridge.{sized_long}
 
 -- ---- what is said of an operator
 
@@ -165,11 +166,6 @@ push_does K news (There ws p c) v h = pushed_does K news ws p c v (out-Value c) 
 push_does K news (Missing ws p n ks) v h = made_does K ws p n ks (Array (news [])) v h
 push_does K news Blocked v h = tt
 
-sized_length : (n : ℕ) (vs : List Value) → length (sized n vs) ≡ n
-sized_length zero vs = refl
-sized_length (suc n) [] = ap suc (sized_length n [])
-sized_length (suc n) (v ∷ vs) = ap suc (sized_length n vs)
-
 -- an array of another length is another one
 resized_other : (n : ℕ) (is : List Value) (c : Value) → out-Value c ≡ Value-F.Array is → n < length is → resize_here n c ≡ c → ⊥
 unfolding resize_here
@@ -178,7 +174,7 @@ resized_other n is c e l i =
     let g : Value-F.Array (sized n is) ≡ Value-F.Array is = f ∙ (ap out-Value i ∙ e) in
     let h : sized n is ≡ is = cc in
     let k : length (sized n is) ≡ length is = ap length h in
-    let m = sized_length n is in
+    let m = sized_long n is in
     omega arith
 
 cuts : (K : Path) (ws : List Part) (p : Part) (n : ℕ) (c v : Value) → At K v (There ws p c) → (resize_here n c ≡ c → ⊥) → Acted K [] v (cut ws p n v)

@@ -16,6 +16,8 @@ use Rattle.update_model.specs.Conflicts.{Path, conflict, begins}
 use Rattle.update_model.specs.Arguments.{Fields, number_in, end_in, text_in, values_in, is_expression, operator_of}
 use Rattle.update_model.specs.Reading.{name_of, Met, Taken, Refused, starts_with_id, met_by, met, is_some, target, targets, met_at, met_paths, met_field, all_met, first_fault, ops_fault, listed, operators_at, operators_in, operators}
 use Rattle.unchanged_updates.proofs.Acts.{ApartFrom, first_path, other_paths}
+use Rattle.touch_laws.proofs.Bridge.{both_no}
+use Rattle.update_model.proofs.ReadOff.{none_refused, both_none}
 
 abbrev pub paths_of : Operator → List Path
 paths_of o = first_path o ∷ other_paths o
@@ -40,10 +42,6 @@ abbrev AllApart : List Path → List Path → Type 0
 AllApart [] ps = ⊤
 AllApart (s ∷ seen) ps = ApartFrom s ps × AllApart seen ps
 
-or_false : (a b : Bool) → a || b ≡ false → (a ≡ false) × (b ≡ false)
-or_false true b e = cc
-or_false false b e = (refl, e)
-
 turned : (a b : Bool) → a || b ≡ false → b || a ≡ false
 turned true b e = cc
 turned false true e = cc
@@ -55,7 +53,7 @@ none_apart (s ∷ seen) = (tt, none_apart seen)
 
 with_one : (p : Path) (ps seen : List Path) → list_any (conflict p) seen ≡ false → AllApart seen ps → AllApart seen (p ∷ ps)
 with_one p ps [] e a = tt
-with_one p ps (s ∷ seen) e a = let b = or_false (conflict p s) (list_any (conflict p) seen) e in ((turned (begins p s) (begins s p) b.0, a.0), with_one p ps seen b.1 a.1)
+with_one p ps (s ∷ seen) e a = let b = both_no (conflict p s) (list_any (conflict p) seen) e in ((turned (begins p s) (begins s p) b.0, a.0), with_one p ps seen b.1 a.1)
 
 met_apart : (seen : List Path) (ms : List Met) → first_fault seen ms ≡ None → AllApart seen (taken ms) × Pairwise (taken ms)
 met_apart seen [] e = (none_apart seen, tt)
@@ -72,20 +70,6 @@ abbrev NoneRefused : List Met → Type 0
 NoneRefused [] = ⊤
 NoneRefused (Taken p ∷ ms) = NoneRefused ms
 NoneRefused (Refused e ∷ ms) = ⊥
-
-none_refused : (seen : List Path) (ms : List Met) → first_fault seen ms ≡ None → NoneRefused ms
-none_refused seen [] e = tt
-none_refused seen (Refused f ∷ ms) e = cc
-none_refused seen (Taken p ∷ ms) e = by (list_any (conflict p) seen) e (none_refused (p ∷ seen) ms)
-  where
-    by : (b : Bool) → (if b then Some faults.Conflict else first_fault (p ∷ seen) ms) ≡ None → (first_fault (p ∷ seen) ms ≡ None → NoneRefused ms) → NoneRefused ms
-    by true e ih = cc
-    by false e ih = ih e
-
-both_none : (ms ns : List Met) → NoneRefused (ms ++ ns) → NoneRefused ms × NoneRefused ns
-both_none [] ns h = (tt, h)
-both_none (Taken p ∷ ms) ns h = both_none ms ns h
-both_none (Refused e ∷ ms) ns h = absurd h
 
 taken_append : (ms ns : List Met) → taken (ms ++ ns) ≡ taken ms ++ taken ns
 taken_append [] ns = refl

@@ -4,12 +4,10 @@ use Rattle.std.specs.Prelude.{Option, Some, None, pos}
 use Rattle.bson_value.specs.declared.value.Value.{Value, Int, Object, Bool as Truth}
 use Rattle.bson_value.specs.Spelling.{document_text}
 use Rattle.doc_path.specs.declared.parts.Part.{Part}
-use Rattle.doc_path.specs.declared.parts.Part.TheVariants.{Name as name, Index as index}
 use Rattle.doc_path.specs.declared.parts.Form.{Form}
 use Rattle.doc_path.specs.declared.parts.Form.TheVariants.{V1}
 use Rattle.doc_path.specs.declared.touches.Touch.{Touch}
 use Rattle.doc_path.specs.declared.touches.Touch.TheVariants.{Set, Unset, Resize}
-use Rattle.doc_path.specs.Touch.{key_of}
 use Rattle.doc_path.specs.Paths.{dot}
 use Rattle.doc_path.specs.Played.{way_and_last}
 use Rattle.doc_path.specs.Ways.{value_in}
@@ -20,10 +18,7 @@ use Rattle.entry_model.specs.Touches.{edit_of, written}
 use Rattle.entry_model.specs.Spelling.{level_limit}
 use Rattle.update_action.specs.Recorded.{set_or_length, without_length, delta_text}
 use Rattle.update_replay.specs.Forms as forms
-
-key_as_name : (p : Part) → key_of (as_name p) ≡ key_of p
-key_as_name (name k) = refl
-key_as_name (index n) = refl
+use Rattle.update_replay.proofs.Named.{key_as_name}
 
 path_as_names : (ps : List Part) → path_of (as_names ps) ≡ path_of ps
 path_as_names [] = refl

@@ -18,7 +18,7 @@ use Rattle.update_bounds.specs.Laws.{UpdatesAreSmall}
 abbrev IsSmall : Fields → Type 0
 IsSmall d = (length (document_text d) ≤ byte_limit) × (levels_of d ≤ level_limit)
 
-not_above : (a n : ℕ) → nat_lt a n ≡ false → n ≤ a
+pub not_above : (a n : ℕ) → nat_lt a n ≡ false → n ≤ a
 not_above a n e = grind (arith, common_steps)
 
 abbrev EndsSmall : Value → Outcome → Type 0

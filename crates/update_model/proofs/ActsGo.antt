@@ -1,6 +1,6 @@
 -- Each operator, and an accepted update, is steps.
-use Rattle.std.proofs.Common.{◌≡◌, ℕ, ◌<◌, ◌≤◌, ◌+◌, List, [], ◌∷◌, ◌++◌, length, Bool, true, false, refl, sym, ap, ◌∙◌, subst, arith, Option, Some, None}
-use Rattle.std.specs.Prelude.{⊤, ◌||◌, not, if◌then◌else◌, nat_lt, Result, Ok, Err}
+use Rattle.std.proofs.Common.{◌≡◌, ℕ, ◌≤◌, ◌+◌, List, [], ◌∷◌, ◌++◌, length, Bool, true, false, refl, ◌∙◌, arith, Option, Some, None}
+use Rattle.std.specs.Prelude.{⊤, ◌||◌, not, if◌then◌else◌, nat_lt, Ok, Err}
 use Rattle.std.specs.List.{list_any}
 use Rattle.std.proofs.lemmas.Grind.{common_steps}
 use Rattle.bson_value.specs.declared.value.Value.{Value, Value-F, Array, Null, out-Value}
@@ -8,7 +8,6 @@ use Rattle.doc_path.specs.declared.parts.Part.{Part}
 use Rattle.doc_path.specs.declared.parts.Part.TheVariants.{Name as name, Index as index}
 use Rattle.doc_path.specs.declared.parts.Form.TheVariants.{V2}
 use Rattle.doc_path.specs.Touch.{limit, Way}
-use Rattle.update_model.specs.declared.mark.Mark.{Mark}
 use Rattle.update_model.specs.declared.operator.Operator.{Operator}
 use Rattle.update_model.specs.declared.operator.Operator.TheVariants as operators
 use Rattle.update_model.specs.declared.operator.Number.{Number}
@@ -22,9 +21,8 @@ use Rattle.update_model.specs.Equality.{same}
 use Rattle.update_model.specs.Numbers.{sum, product, zero_of, value_of}
 use Rattle.update_model.specs.Located.{Located, There, Missing, Blocked, located, build}
 use Rattle.update_model.specs.Steps.{Trace, after, replaced, added, appended, removed, cut}
-use Rattle.update_model.specs.Acts.{Act, Steps, Refused, Oversized, is_far, made_at, changed_at, set, is_null, unset, counted_as, counted, count, is_index, goes_through_array, can_take, moved_to, moved, rename, grown, pushed_in, push, new_ones, shortened, popped, popped_in, pop, others, pulled_in, pull, act}
+use Rattle.update_model.specs.Acts.{Act, Steps, Refused, Oversized, is_far, made_at, changed_at, set, is_null, unset, counted_as, counted, count, goes_through_array, can_take, moved_to, moved, rename, grown, pushed_in, push, new_ones, shortened, popped, popped_in, pop, others, pulled_in, pull, act}
 use Rattle.update_model.specs.Updating.{Outcome, fields_of, refusal_at_end, ended, and_more, on_act, outcome}
-use Rattle.update_model.proofs.MarkTerms.{Step, Steps as AreSteps}
 use Rattle.update_model.proofs.ActSteps.{IsThere, IsMissing, Holds, located_holds, Goes, replaced_goes, added_goes, removed_goes, cut_goes, appended_goes}
 
 abbrev pub Good : Value → Act → Type 0
@@ -83,7 +81,7 @@ moved_to_good (There ws p c) a v h = replaced_goes ws p c a v h
 moved_to_good (Missing ws p n ks) a v h = added_goes ws p n (build ks a) v h
 moved_to_good Blocked a v h = refl
 
-no_index_last : (ws : List Part) (i : ℕ) → goes_through_array ws (index i) ≡ true
+pub no_index_last : (ws : List Part) (i : ℕ) → goes_through_array ws (index i) ≡ true
 no_index_last [] i = refl
 no_index_last (name k ∷ ws) i = no_index_last ws i
 no_index_last (index j ∷ ws) i = refl
@@ -100,7 +98,7 @@ rename_good (There ws (index i) c) to v h = rw (no_index_last ws i) tt
 rename_good (Missing ws p n ks) to v h = refl
 rename_good Blocked to v h = tt
 
-within : (n : ℕ) (b : Bool) → nat_lt limit n ≡ b → b ≡ false → n ≤ limit
+pub within : (n : ℕ) (b : Bool) → nat_lt limit n ≡ b → b ≡ false → n ≤ limit
 within n b e f = let g = e ∙ f in grind (arith, common_steps)
 
 grown_good : (ws : List Part) (p : Part) (is vs : List Value) (c v : Value) → out-Value c ≡ Value-F.Array is → Way V2 ws (IsThere p c) v → Good v (grown ws p is vs v)

@@ -1,5 +1,5 @@
 -- The operators that are read act at no path that begins with `_id`.
-use Rattle.std.proofs.Common.{◌≡◌, ℕ, List, [], ◌∷◌, ◌++◌, Bool, true, false, refl, sym, ap, ◌∙◌, subst, Option, Some, None, inl, inr}
+use Rattle.std.proofs.Common.{◌≡◌, ℕ, List, [], ◌∷◌, ◌++◌, Bool, true, false, refl, Option, Some, None}
 use Rattle.std.specs.Prelude.{if◌then◌else◌, option_map}
 use Rattle.std.specs.List.{list_any, flat_map}
 use Rattle.bson_value.specs.declared.value.Value.{Value, Value-F, out-Value}
@@ -11,7 +11,6 @@ use Rattle.update_model.specs.declared.operator.Operator.{Operator}
 use Rattle.update_model.specs.declared.operator.Operator.TheVariants as operators_are
 use Rattle.update_model.specs.declared.operator.Number.{Number}
 use Rattle.update_model.specs.declared.operator.ArrayEnd.{ArrayEnd}
-use Rattle.update_model.specs.declared.fault.OpsFault.{OpsFault}
 use Rattle.update_model.specs.declared.fault.OpsFault.TheVariants as faults
 use Rattle.update_model.specs.Conflicts.{Path, conflict}
 use Rattle.update_model.specs.Arguments.{Fields, number_in, end_in, text_in, values_in, is_expression, operator_of}
@@ -23,7 +22,7 @@ NoneRefused [] = Unit {0}
 NoneRefused (Taken p ∷ ms) = NoneRefused ms
 NoneRefused (Refused e ∷ ms) = ⊥
 
-none_refused : (seen : List Path) (ms : List Met) → first_fault seen ms ≡ None → NoneRefused ms
+pub none_refused : (seen : List Path) (ms : List Met) → first_fault seen ms ≡ None → NoneRefused ms
 none_refused seen [] e = tt
 none_refused seen (Refused f ∷ ms) e = cc
 none_refused seen (Taken p ∷ ms) e = by (list_any (conflict p) seen) e (none_refused (p ∷ seen) ms)
@@ -32,7 +31,7 @@ none_refused seen (Taken p ∷ ms) e = by (list_any (conflict p) seen) e (none_r
     by true e ih = cc
     by false e ih = ih e
 
-both_none : (ms ns : List Met) → NoneRefused (ms ++ ns) → NoneRefused ms × NoneRefused ns
+pub both_none : (ms ns : List Met) → NoneRefused (ms ++ ns) → NoneRefused ms × NoneRefused ns
 both_none [] ns h = (tt, h)
 both_none (Taken p ∷ ms) ns h = both_none ms ns h
 both_none (Refused e ∷ ms) ns h = absurd h

@@ -1,13 +1,12 @@
 -- The highest places that an update changed, each once, record it.
-use Rattle.std.proofs.Common.{◌≡◌, ℕ, List, [], ◌∷◌, ◌++◌, Bool, true, false, refl, sym, ap, ◌∙◌, subst, arith, inl, inr, map, Option, Some, None}
+use Rattle.std.proofs.Common.{◌≡◌, ℕ, List, [], ◌∷◌, ◌++◌, Bool, true, false, refl, sym, ap, ◌∙◌, subst, inl, inr, map, Option, Some, None}
 use Rattle.std.specs.Prelude.{◌||◌, ◌&&◌, if◌then◌else◌, Ok, Err}
-use Rattle.std.specs.List.{list_any}
 use Rattle.std.specs.Str.{bytes_eq}
 use Rattle.std.proofs.lemmas.Bool.{cases_Bool, and_parts}
 use Rattle.bson_value.specs.declared.value.Value.{Value, Value-F, Object, out-Value, roll-Value, roll-out-Value}
 use Rattle.bson_value.specs.declared.value.Value.TheVariants.{rolls-Object}
 use Rattle.bson_value.specs.Place.{Place, Shape, a_leaf, an_array, an_object, a_code, shape_in, shape, child}
-use Rattle.bson_value.proofs.Child.{same_name, name_refl}
+use Rattle.bson_value.proofs.Child.{same_name}
 use Rattle.doc_path.specs.declared.parts.Part.{Part}
 use Rattle.doc_path.specs.declared.parts.Part.TheVariants.{Name as name, Index as index}
 use Rattle.doc_path.specs.declared.parts.Form.TheVariants.{V2}
@@ -26,7 +25,7 @@ use Rattle.update_model.specs.declared.updated.Updated.{Updated}
 use Rattle.update_model.specs.Updating.{fields_in, fields_of, Outcome, outcome, updated_by, updated}
 use Rattle.update_model.specs.Laws.{UpdateIsRecorded}
 use Rattle.update_model.proofs.ActsGo.{Traced, outcome_traced}
-use Rattle.update_model.proofs.MarkTheory.{In, touches_cover, tops_in, tops_false, top_stands, update_records, steps_frame}
+use Rattle.update_model.proofs.MarkTheory.{In, touches_cover, tops_in, top_stands, update_records, steps_frame}
 use Rattle.doc_path.specs.Played.{touch_at}
 use Rattle.doc_path.specs.declared.parts.Change.TheVariants.{Put, Delete}
 use Rattle.doc_path.proofs.Last.{split-append}
@@ -35,6 +34,7 @@ use Rattle.doc_path.proofs.Steps.{shape-object}
 use Rattle.bson_value.proofs.Alike.{object_in}
 use Rattle.touch_laws.proofs.Replay.{same_shape}
 use Rattle.update_model.proofs.StepTheory.{or_parts_false}
+use Rattle.touch_laws.proofs.Cover.{or_false}
 
 -- ---- places
 
@@ -85,17 +85,14 @@ before_covers m (s ∷ seen) q e f =
       | inr c ↦ (let g : stands_in (place_of m) seen ≡ true = rw c at e in before_covers m seen q g h.1)
     ]
 
-or_no : (a b : Bool) → a ≡ false → b ≡ false → a || b ≡ false
-or_no a b x y = rw (x, y) refl
-
 pub firsts_cover : (seen ms : List Mark) (q : Place) → any_mark seen q ≡ false → any_mark (firsts seen ms) q ≡ false → any_mark ms q ≡ false
 firsts_cover seen [] q a b = refl
 firsts_cover seen (m ∷ ms) q a b = by (stands_in (place_of m) seen) refl b (firsts_cover seen ms q a) (firsts_cover (m ∷ seen) ms q)
   where
     by : (c : Bool) → stands_in (place_of m) seen ≡ c → any_mark (if c then firsts seen ms else m ∷ firsts (m ∷ seen) ms) q ≡ false →
         (any_mark (firsts seen ms) q ≡ false → any_mark ms q ≡ false) → (any_mark (m ∷ seen) q ≡ false → any_mark (firsts (m ∷ seen) ms) q ≡ false → any_mark ms q ≡ false) → mark_covers m q || any_mark ms q ≡ false
-    by true e f x y = or_no (mark_covers m q) (any_mark ms q) (before_covers m seen q e a) (x f)
-    by false e f x y = let h = or_parts_false (mark_covers m q) (any_mark (firsts (m ∷ seen) ms) q) f in or_no (mark_covers m q) (any_mark ms q) h.0 (y (or_no (mark_covers m q) (any_mark seen q) h.0 a) h.1)
+    by true e f x y = or_false (mark_covers m q) (any_mark ms q) (before_covers m seen q e a) (x f)
+    by false e f x y = let h = or_parts_false (mark_covers m q) (any_mark (firsts (m ∷ seen) ms) q) f in or_false (mark_covers m q) (any_mark ms q) h.0 (y (or_false (mark_covers m q) (any_mark seen q) h.0 a) h.1)
 
 pub firsts_done : (z : Value) (seen ms : List Mark) → AllDone V2 (touches_of z ms) z → AllDone V2 (touches_of z (firsts seen ms)) z
 firsts_done z seen [] d = tt

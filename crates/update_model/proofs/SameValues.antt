@@ -2,24 +2,17 @@
 use Rattle.std.proofs.Common.{◌≡◌, ℕ, List, [], ◌∷◌, Bool, true, false, refl, sym, ap, ◌∙◌, subst, map, arith, inl, inr}
 use Rattle.std.specs.Prelude.{◌&&◌, ◌==◌, ◌↔◌, IsTrue}
 use Rattle.std.specs.Str.{bytes_eq}
-use Rattle.std.specs.Ordering.{int_eq}
 use Rattle.std.proofs.lemmas.Bool.{cases_Bool, and_parts}
 use Rattle.std.proofs.lemmas.Bool.Decides.{Decides-int_eq}
 use Rattle.std.proofs.lemmas.Grind.{common_steps}
-use Rattle.std.proofs.lemmas.Slice.Eq.{bytes_eq-Decides}
 use Rattle.bson_value.specs.declared.value.Value.{Value, Value-F, out-Value, roll-Value, out-roll-Value, roll-out-Value, fold-roll-Value, map-Value, ind-Value}
 use Rattle.bson_value.specs.declared.value.Ts.{Ts}
 use Rattle.update_model.specs.Laws.{SameIsEqual}
 use Rattle.update_model.specs.Equality.{Test, same_bool, same_items, same_fields, same_level, same_step, same}
+use Rattle.bson_value.proofs.Child.{same_name, name_refl}
 
 both : (a b : Bool) → a ≡ true → b ≡ true → a && b ≡ true
 both a b x y = rw (x, y) refl
-
-bytes : (a b : List ℕ) → bytes_eq a b ≡ true → a ≡ b
-bytes a b e = (bytes_eq-Decides a b).0 e
-
-own_bytes : (a : List ℕ) → bytes_eq a a ≡ true
-own_bytes a = (bytes_eq-Decides a a).1 refl
 
 truths : (a b : Bool) → same_bool a b ≡ true → a ≡ b
 truths true b e = sym e
@@ -30,7 +23,7 @@ own_truth : (a : Bool) → same_bool a a ≡ true
 own_truth true = refl
 own_truth false = refl
 
-number : (a b : ℕ) → (a == b) ≡ true → a ≡ b
+pub number : (a b : ℕ) → (a == b) ≡ true → a ≡ b
 number a b e = grind (arith, common_steps)
 
 own_number : (a : ℕ) → (a == a) ≡ true
@@ -73,11 +66,11 @@ fields (t ∷ ts) [] e = cc
 fields (t ∷ ts) (g ∷ gs) e =
     let h = and_parts (bytes_eq t.0 g.0 && same t.1.0 g.1) (same_fields (map field_test ts) gs) e in
     let k = and_parts (bytes_eq t.0 g.0) (same t.1.0 g.1) h.0 in
-    λ i. (bytes t.0 g.0 k.0 i, t.1.1.0 g.1 k.1 i) ∷ fields ts gs h.1 i
+    λ i. (same_name t.0 g.0 k.0 i, t.1.1.0 g.1 k.1 i) ∷ fields ts gs h.1 i
 
 own_fields : (ts : List (List ℕ × Told)) → same_fields (map field_test ts) (map field_value ts) ≡ true
 own_fields [] = refl
-own_fields (t ∷ ts) = both (bytes_eq t.0 t.0 && same t.1.0 t.1.0) (same_fields (map field_test ts) (map field_value ts)) (both (bytes_eq t.0 t.0) (same t.1.0 t.1.0) (own_bytes t.0) t.1.1.1) (own_fields ts)
+own_fields (t ∷ ts) = both (bytes_eq t.0 t.0 && same t.1.0 t.1.0) (same_fields (map field_test ts) (map field_value ts)) (both (bytes_eq t.0 t.0) (same t.1.0 t.1.0) (name_refl t.0) t.1.1.1) (own_fields ts)
 
 abbrev values_at : Value-F Told → Value-F Value
 values_at y = map-Value Told Value value y
@@ -89,49 +82,49 @@ stamps : (a b : Ts) → (a.secs == b.secs) && (a.inc == b.inc) ≡ true → a �
 stamps a b e = let h = and_parts (a.secs == b.secs) (a.inc == b.inc) e in λ i. record { secs = number a.secs b.secs h.0 i; inc = number a.inc b.inc h.1 i }
 
 level : (y : Value-F Told) (g : Value-F Value) → same_level (tests_at y) g ≡ true → values_at y ≡ g
-level (Value-F.Double a) (Value-F.Double b) e = ap Value-F.Double (bytes a b e)
-level (Value-F.Str a) (Value-F.Str b) e = ap Value-F.Str (bytes a b e)
+level (Value-F.Double a) (Value-F.Double b) e = ap Value-F.Double (same_name a b e)
+level (Value-F.Str a) (Value-F.Str b) e = ap Value-F.Str (same_name a b e)
 level (Value-F.Object ts) (Value-F.Object gs) e = ap Value-F.Object (fields ts gs e)
 level (Value-F.Array ts) (Value-F.Array vs) e = ap Value-F.Array (items ts vs e)
-level (Value-F.Binary s a) (Value-F.Binary t b) e = let h = and_parts (s == t) (bytes_eq a b) e in λ i. Value-F.Binary (number s t h.0 i) (bytes a b h.1 i)
+level (Value-F.Binary s a) (Value-F.Binary t b) e = let h = and_parts (s == t) (bytes_eq a b) e in λ i. Value-F.Binary (number s t h.0 i) (same_name a b h.1 i)
 level Value-F.Undefined Value-F.Undefined e = refl
-level (Value-F.Oid a) (Value-F.Oid b) e = ap Value-F.Oid (bytes a b e)
+level (Value-F.Oid a) (Value-F.Oid b) e = ap Value-F.Oid (same_name a b e)
 level (Value-F.Bool a) (Value-F.Bool b) e = ap Value-F.Bool (truths a b e)
 level (Value-F.Date a) (Value-F.Date b) e = ap Value-F.Date ((Decides-int_eq a b).0 e)
 level Value-F.Null Value-F.Null e = refl
-level (Value-F.Regex p o) (Value-F.Regex q r) e = let h = and_parts (bytes_eq p q) (bytes_eq o r) e in λ i. Value-F.Regex (bytes p q h.0 i) (bytes o r h.1 i)
-level (Value-F.DbPointer n a) (Value-F.DbPointer m b) e = let h = and_parts (bytes_eq n m) (bytes_eq a b) e in λ i. Value-F.DbPointer (bytes n m h.0 i) (bytes a b h.1 i)
-level (Value-F.Code a) (Value-F.Code b) e = ap Value-F.Code (bytes a b e)
-level (Value-F.Symbol a) (Value-F.Symbol b) e = ap Value-F.Symbol (bytes a b e)
-level (Value-F.ScopedCode a ts) (Value-F.ScopedCode b gs) e = let h = and_parts (bytes_eq a b) (same_fields (map field_test ts) gs) e in λ i. Value-F.ScopedCode (bytes a b h.0 i) (fields ts gs h.1 i)
+level (Value-F.Regex p o) (Value-F.Regex q r) e = let h = and_parts (bytes_eq p q) (bytes_eq o r) e in λ i. Value-F.Regex (same_name p q h.0 i) (same_name o r h.1 i)
+level (Value-F.DbPointer n a) (Value-F.DbPointer m b) e = let h = and_parts (bytes_eq n m) (bytes_eq a b) e in λ i. Value-F.DbPointer (same_name n m h.0 i) (same_name a b h.1 i)
+level (Value-F.Code a) (Value-F.Code b) e = ap Value-F.Code (same_name a b e)
+level (Value-F.Symbol a) (Value-F.Symbol b) e = ap Value-F.Symbol (same_name a b e)
+level (Value-F.ScopedCode a ts) (Value-F.ScopedCode b gs) e = let h = and_parts (bytes_eq a b) (same_fields (map field_test ts) gs) e in λ i. Value-F.ScopedCode (same_name a b h.0 i) (fields ts gs h.1 i)
 level (Value-F.Int a) (Value-F.Int b) e = ap Value-F.Int ((Decides-int_eq a b).0 e)
 level (Value-F.Stamp a) (Value-F.Stamp b) e = ap Value-F.Stamp (stamps a b e)
 level (Value-F.Long a) (Value-F.Long b) e = ap Value-F.Long ((Decides-int_eq a b).0 e)
-level (Value-F.Decimal a) (Value-F.Decimal b) e = ap Value-F.Decimal (bytes a b e)
+level (Value-F.Decimal a) (Value-F.Decimal b) e = ap Value-F.Decimal (same_name a b e)
 level Value-F.MinKey Value-F.MinKey e = refl
 level Value-F.MaxKey Value-F.MaxKey e = refl
 level _ _ e = cc
 
 own_level : (y : Value-F Told) → same_level (tests_at y) (values_at y) ≡ true
-own_level (Value-F.Double a) = own_bytes a
-own_level (Value-F.Str a) = own_bytes a
+own_level (Value-F.Double a) = name_refl a
+own_level (Value-F.Str a) = name_refl a
 own_level (Value-F.Object ts) = own_fields ts
 own_level (Value-F.Array ts) = own_items ts
-own_level (Value-F.Binary s a) = both (s == s) (bytes_eq a a) (own_number s) (own_bytes a)
+own_level (Value-F.Binary s a) = both (s == s) (bytes_eq a a) (own_number s) (name_refl a)
 own_level Value-F.Undefined = refl
-own_level (Value-F.Oid a) = own_bytes a
+own_level (Value-F.Oid a) = name_refl a
 own_level (Value-F.Bool a) = own_truth a
 own_level (Value-F.Date a) = (Decides-int_eq a a).1 refl
 own_level Value-F.Null = refl
-own_level (Value-F.Regex p o) = both (bytes_eq p p) (bytes_eq o o) (own_bytes p) (own_bytes o)
-own_level (Value-F.DbPointer n a) = both (bytes_eq n n) (bytes_eq a a) (own_bytes n) (own_bytes a)
-own_level (Value-F.Code a) = own_bytes a
-own_level (Value-F.Symbol a) = own_bytes a
-own_level (Value-F.ScopedCode a ts) = both (bytes_eq a a) (same_fields (map field_test ts) (map field_value ts)) (own_bytes a) (own_fields ts)
+own_level (Value-F.Regex p o) = both (bytes_eq p p) (bytes_eq o o) (name_refl p) (name_refl o)
+own_level (Value-F.DbPointer n a) = both (bytes_eq n n) (bytes_eq a a) (name_refl n) (name_refl a)
+own_level (Value-F.Code a) = name_refl a
+own_level (Value-F.Symbol a) = name_refl a
+own_level (Value-F.ScopedCode a ts) = both (bytes_eq a a) (same_fields (map field_test ts) (map field_value ts)) (name_refl a) (own_fields ts)
 own_level (Value-F.Int a) = (Decides-int_eq a a).1 refl
 own_level (Value-F.Stamp a) = both (a.secs == a.secs) (a.inc == a.inc) (own_number a.secs) (own_number a.inc)
 own_level (Value-F.Long a) = (Decides-int_eq a a).1 refl
-own_level (Value-F.Decimal a) = own_bytes a
+own_level (Value-F.Decimal a) = name_refl a
 own_level Value-F.MinKey = refl
 own_level Value-F.MaxKey = refl
 

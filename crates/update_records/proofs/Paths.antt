@@ -21,12 +21,13 @@ use Rattle.update_model.specs.declared.operator.Number.{Number}
 use Rattle.update_model.specs.declared.operator.Number.TheVariants as numbers
 use Rattle.update_model.specs.declared.operator.ArrayEnd.{ArrayEnd}
 use Rattle.update_model.specs.declared.fault.OpsFault.TheVariants as faults
-use Rattle.update_model.specs.Conflicts.{Path, conflict}
+use Rattle.update_model.specs.Conflicts.{Path}
 use Rattle.update_model.specs.Arguments.{number_in, end_in, text_in, items_in, each_of, values_in, is_expression, operator_of}
-use Rattle.update_model.specs.Reading.{name_of, Met, Taken, Refused, starts_with_id, met_by, met, is_some, target, targets, met_at, met_paths, met_field, all_met, first_fault, ops_fault, listed, operators_at, operators_in, operators}
+use Rattle.update_model.specs.Reading.{name_of, Met, Taken, Refused, starts_with_id, met_by, met, is_some, target, targets, met_at, met_paths, met_field, all_met, ops_fault, listed, operators_at, operators_in, operators}
 use Rattle.update_records.proofs.Levels.{Fields}
 use Rattle.update_records.proofs.Once.{either_false}
 use Rattle.update_records.proofs.Acts.{IsNamedPath, IsWellFormedNumber, IsWellFormedOperator, AreWellFormedOperators}
+use Rattle.update_model.proofs.ReadOff.{none_refused}
 
 -- ---- the texts between dots
 
@@ -109,15 +110,6 @@ abbrev NoneRefused : List Met → Type 0
 NoneRefused [] = Unit {0}
 NoneRefused (Taken p ∷ ms) = NoneRefused ms
 NoneRefused (Refused e ∷ ms) = ⊥
-
-none_refused : (seen : List Path) (ms : List Met) → first_fault seen ms ≡ None → NoneRefused ms
-none_refused seen [] e = tt
-none_refused seen (Refused f ∷ ms) e = cc
-none_refused seen (Taken p ∷ ms) e = by (list_any (conflict p) seen) e (none_refused (p ∷ seen) ms)
-  where
-    by : (b : Bool) → (if b then Some faults.Conflict else first_fault (p ∷ seen) ms) ≡ None → (first_fault (p ∷ seen) ms ≡ None → NoneRefused ms) → NoneRefused ms
-    by true e ih = cc
-    by false e ih = ih e
 
 refused_apart : (ms ns : List Met) → NoneRefused (ms ++ ns) → NoneRefused ms × NoneRefused ns
 refused_apart [] ns h = (tt, h)

@@ -26,8 +26,9 @@ use Rattle.update_records.proofs.Levels.{Fields}
 use Rattle.update_records.proofs.Decoded.{decoded_is}
 use Rattle.update_records.proofs.Once.{touches_once}
 use Rattle.update_records.proofs.Made.{updated_formed}
-use Rattle.update_records.proofs.Writable.{mapped_is, writable}
+use Rattle.update_records.proofs.Writable.{writable}
 use Rattle.update_records.proofs.Written.{form_formed, form_once, written_formed}
+use Rattle.delta_laws.proofs.Deltas.{mapped_is}
 
 module _ (spells : SpellingSpells) (once : SpelledOnce) (distinct : WrittenIsDocument) (read : DeltaIsRead) where
   formed : (form : Form) (ops doc : Fields) (u : Updated) → IsWellFormedDocument ops → IsWellFormedDocument doc → ops_fault ops ≡ None → updated (operators ops) doc ≡ Ok u → IsWellFormedDocument (written form level_limit (in_form form (Object u.doc) u.touches))

@@ -1,5 +1,5 @@
 -- The touches of an accepted update can be written.
-use Rattle.std.proofs.Common.{◌≡◌, List, [], ◌∷◌, map, refl, sym, ap, subst, None}
+use Rattle.std.proofs.Common.{◌≡◌, List, [], map, sym, subst, None}
 use Rattle.std.specs.Prelude.{Ok}
 use Rattle.bson_value.specs.declared.value.Value.{Object}
 use Rattle.doc_path.specs.declared.parts.Form.{Form}
@@ -17,14 +17,9 @@ use Rattle.update_replay.specs.Forms.{in_form}
 use Rattle.update_replay.proofs.Replayed.{first_form_records}
 use Rattle.update_replay.proofs.Lengths.{second_records}
 use Rattle.update_replay.proofs.PlainTouches.{touches_are_plain}
-use Rattle.entry_model.specs.Edits.{mapped}
 use Rattle.entry_model.specs.Touches.{Writable}
 use Rattle.entry_model.specs.Spelling.{level_limit}
-use Rattle.delta_laws.proofs.Deltas.{writable_each, enough}
-
-pub mapped_is : {A B : Type 0} (f : A → B) (xs : List A) → mapped f xs ≡ map f xs
-mapped_is f [] = refl
-mapped_is f (x ∷ xs) = ap (λ (z : List _). f x ∷ z) (mapped_is f xs)
+use Rattle.delta_laws.proofs.Deltas.{writable_each, enough, mapped_is}
 
 -- ---- the second form
 

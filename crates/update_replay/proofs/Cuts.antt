@@ -35,6 +35,7 @@ use Rattle.update_model.proofs.MarkTheory.{In, in_append}
 use Rattle.update_replay.proofs.Kept.{no_some, conflict_turned, Kept, kept_none, kept_then, at_place}
 use Rattle.update_replay.specs.Plain.{Undotted, ArePlain}
 use Rattle.update_replay.proofs.Spared.{CutAt, IsCutBy, Does, IsDone, act_does, IsMarked, AllMarked}
+use Rattle.update_model.proofs.ReadOff.{both_none}
 
 -- ---- the paths of operators
 
@@ -116,11 +117,11 @@ NoneRefused (Refused e ∷ ms) = ⊥
 AllBehind : List Path → List Path → Type 0
 AllBehind seen ps = (s : Path) → InPaths s seen → AllApart s ps
 
-first_false : (a b : Bool) → (a || b) ≡ false → a ≡ false
+pub first_false : (a b : Bool) → (a || b) ≡ false → a ≡ false
 first_false true b e = e
 first_false false b e = refl
 
-second_false : (a b : Bool) → (a || b) ≡ false → b ≡ false
+pub second_false : (a b : Bool) → (a || b) ≡ false → b ≡ false
 second_false true b e = cc
 second_false false b e = e
 
@@ -146,11 +147,6 @@ sound seen (Taken p ∷ ms) e = by (list_any (conflict p) seen) refl e (sound (p
       behind = λ s i. (none_conflicts p s seen f i, h.behind s (inr i));
       pairs = (h.behind p (inl refl), h.pairs);
     }
-
-both_none : (ms ns : List Met) → NoneRefused (ms ++ ns) → NoneRefused ms × NoneRefused ns
-both_none [] ns h = (tt, h)
-both_none (Taken p ∷ ms) ns h = both_none ms ns h
-both_none (Refused e ∷ ms) ns h = absurd h
 
 taken_append : (ms ns : List Met) → taken (ms ++ ns) ≡ taken ms ++ taken ns
 taken_append [] ns = refl

@@ -25,7 +25,7 @@ use Rattle.update_model.specs.Conflicts.{begins}
 use Rattle.update_model.specs.Reading.{operators, ops_fault}
 use Rattle.update_model.specs.Steps.{Trace, after, marks_of}
 use Rattle.update_model.specs.Touched as spec
-use Rattle.update_model.specs.Touched.{parts_of, place_of, touched, touches, whole, whole_at}
+use Rattle.update_model.specs.Touched.{parts_of, touched, touches, whole, whole_at}
 use Rattle.update_model.specs.Updating.{Outcome, fields_of, outcome, updated_by, updated}
 use Rattle.update_model.proofs.MarkTerms.{mark_covers, at_keys, Stands, Steps as AreSteps}
 use Rattle.update_model.proofs.MarkTheory.{In, top_stands}
@@ -33,7 +33,7 @@ use Rattle.update_model.proofs.ActsGo.{Traced, outcome_traced}
 use Rattle.update_model.proofs.Recording.{covers_begins, keys_more, touched_in, value_at_mark, whole_records, after_is_document}
 use Rattle.update_replay.proofs.Kept.{no_some, begins_rest, look_on, look_none, look_root}
 use Rattle.update_replay.proofs.Spared.{CutAt}
-use Rattle.update_replay.proofs.Cuts.{cut_arrays}
+use Rattle.update_replay.proofs.Cuts.{cut_arrays, first_false, second_false}
 
 -- ---- a touch as it is played, and with the whole array in place of a length
 
@@ -137,14 +137,6 @@ cut_frame v z a vs m (j ∷ r) c e l f = by (index_of j) refl f
         look_at (Some z) p (j ∷ r) a e
         ∙ (look_on a j r ∙ (ap (λ (x : Option Value). look x r) (array_child a vs j l ∙ ap (at_index vs) o)
         ∙ (sym (ap (λ (x : Option Value). look x r) (no_element h.value j h.kind o)) ∙ (sym (look_on h.value j r) ∙ sym (look_at (Some v) p (j ∷ r) h.value h.at)))))
-
-first_false : (a b : Bool) → (a || b) ≡ false → a ≡ false
-first_false true b e = e
-first_false false b e = refl
-
-second_false : (a b : Bool) → (a || b) ≡ false → b ≡ false
-second_false true b e = cc
-second_false false b e = e
 
 both_false : (a b : Bool) → a ≡ false → b ≡ false → (a || b) ≡ false
 both_false a b x y = rw (x, y) refl

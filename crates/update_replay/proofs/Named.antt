@@ -11,7 +11,7 @@ use Rattle.touch_laws.specs.Agree.{any_covers, Done, AllDone, SetDone, UnsetDone
 use Rattle.update_replay.specs.Forms.{as_name, as_names, named}
 use Rattle.update_replay.specs.Laws.{NamesRecord}
 
-key_as_name : (p : Part) → key_of (as_name p) ≡ key_of p
+pub key_as_name : (p : Part) → key_of (as_name p) ≡ key_of p
 key_as_name (name k) = refl
 key_as_name (index n) = refl
 

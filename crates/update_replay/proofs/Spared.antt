@@ -38,6 +38,7 @@ use Rattle.update_model.proofs.MarkTheory.{In, in_append}
 use Rattle.update_model.proofs.ActSteps.{IsThere, IsMissing, Holds, located_holds, replaced_goes, removed_goes, cut_goes, appended_goes}
 use Rattle.update_replay.specs.Plain.{Undotted, PlainName, ArePlain, IsNamed}
 use Rattle.update_replay.proofs.Kept.{look_on, look_none, look_root, Kept, kept_none, kept_then, there_kept, grown_kept, added_kept, IsAt, is_at, WayEnd, way_end}
+use Rattle.update_model.proofs.ActsGo.{no_index_last, within}
 
 -- ---- an array that was cut
 
@@ -334,9 +335,6 @@ count_does (There ws p c) op first v path h e = counted_does ws p c v op (number
 count_does (Missing ws p n ks) op first v path h e = made_does ws p n ks (value_of first) v path e h
 count_does Blocked op first v path h e = tt
 
-within : (n : ℕ) (b : Bool) → nat_lt limit n ≡ b → b ≡ false → n ≤ limit
-within n b e f = let g = e ∙ f in grind (arith, common_steps)
-
 grown_does : (ws : List Part) (p : Part) (is vs : List Value) (c v : Value) (path : Path) → keys ws ++ (key_of p ∷ []) ≡ path → out-Value c ≡ Value-F.Array is → Way V2 ws (IsThere p c) v → Acts path v (grown ws p is vs v)
 grown_does ws p is [] c v path e a h = nothing_done path v
 grown_does ws p is (b ∷ vs) c v path e a h = by (nat_lt limit (length is + length (b ∷ vs))) refl
@@ -415,11 +413,6 @@ moved_marked : (P : Type 0) (l : Located) (a v : Value) (to : Path) → IsAt to 
 moved_marked P (There ws p c) a v to e h = both_marked P (mark ws p made.Changed ∷ []) [] (one_marked P ws p made.Changed (not_fresh p) (λ x. at_path ws p [] to e (h x))) (none_marked P)
 moved_marked P (Missing ws p n ks) a v to e h = both_marked P (padding ws p n ++ (mark ws p (newly p) ∷ [])) [] (added_marked P ws p n ks (λ x. at_path ws p ks to e (h x))) (none_marked P)
 moved_marked P Blocked a v to e h = none_marked P
-
-no_index_last : (ws : List Part) (i : ℕ) → goes_through_array ws (index i) ≡ true
-no_index_last [] i = refl
-no_index_last (name k ∷ ws) i = no_index_last ws i
-no_index_last (index j ∷ ws) i = refl
 
 nothing_both : (from to : Path) (v : Value) → DoesBoth from to v []
 nothing_both from to v = record { keeps = λ q c d. kept_none q v; cuts = λ m h e. h; marked = λ m h. absurd h }

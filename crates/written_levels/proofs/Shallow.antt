@@ -10,13 +10,12 @@ use Rattle.doc_path.specs.declared.parts.Part.TheVariants.{Name as name, Index a
 use Rattle.doc_path.specs.declared.parts.Form.{Form}
 use Rattle.doc_path.specs.declared.parts.Form.TheVariants.{V1, V2}
 use Rattle.doc_path.specs.declared.touches.Touch.{Touch}
-use Rattle.doc_path.specs.declared.touches.Touch.TheVariants.{Set, Unset, Resize}
 use Rattle.doc_path.specs.Touch as theory
-use Rattle.doc_path.specs.Played.{way_and_last, touch_of}
-use Rattle.touch_laws.specs.Agree.{Done, InTouches}
+use Rattle.doc_path.specs.Played.{touch_of}
+use Rattle.touch_laws.specs.Agree.{Done}
 use Rattle.touch_laws.proofs.Order.{done_of}
 use Rattle.entry_model.specs.Edits as edits
-use Rattle.entry_model.specs.Edits.{Step, Sets, Unsets, Resizes, Edit, In, onto, picked, mapped, gathered, same_part, group, under, heads}
+use Rattle.entry_model.specs.Edits.{Step, Sets, Unsets, Resizes, Edit, In, picked, mapped, gathered, same_part, group, under, heads}
 use Rattle.entry_model.specs.Written.{Fields, d_name, u_name, i_name, a_name, v_name, diff_name, set_name, unset_name, s_of, u_of, section, gone_in, set_in, new_in, gone, set, new, document_diff, length_in, set_at, parts, below, at_part, array_diff, is_array, diff, path_set, path_gone, spelled_v1, spelled_v2}
 use Rattle.entry_model.specs.Touches.{edit_of, written, Writable}
 use Rattle.entry_model.proofs.Lists.{in_either, picked_in, mapped_in, gathered_in}
@@ -24,6 +23,7 @@ use Rattle.entry_model.proofs.Standing.{group_in}
 use Rattle.entry_model.proofs.Regrouped.{head_there}
 use Rattle.written_levels.specs.Laws.{WrittenIsShallow}
 use Rattle.written_levels.proofs.Standing.{some_level, weight, way_weight}
+use Rattle.entry_model.proofs.Touched.{same_touch, touch_in_all}
 
 int_level : (z : ℤ) → levels_in (Int z) ≡ 0
 unfolding levels_in
@@ -188,23 +188,6 @@ first_low k es l =
     omega (arith, below_levels (suc k) (spelled_v1 es) b)
 
 -- ---- the touches of an update
-
-parted : (p : Part) (ps : List Part) → (way_and_last p ps).0 ++ ((way_and_last p ps).1 ∷ []) ≡ p ∷ ps
-parted p [] = refl
-parted p (q ∷ qs) = ap (λ (l : List Part). p ∷ l) (parted q qs)
-
-same_touch : (t : Touch) → edits.touch_of (edit_of t) ≡ touch_of t
-same_touch (Set [] a fresh) = refl
-same_touch (Set (p ∷ ps) a fresh) = refl
-same_touch (Unset []) = refl
-same_touch (Unset (p ∷ ps)) = refl
-same_touch (Resize [] m) = refl
-same_touch (Resize (p ∷ ps) m) = ap (λ (l : List Part). theory.Resize l m) (sym (parted p ps))
-
-touch_in_all : (ts : List Touch) (t : Touch) → In t ts → InTouches (touch_of t) (mapped touch_of ts)
-touch_in_all [] t h = absurd h
-touch_in_all (x ∷ ts) t (inl e) = inl (ap touch_of e)
-touch_in_all (x ∷ ts) t (inr h) = inr (touch_in_all ts t h)
 
 touches_low : (form : Form) (n k : ℕ) (ts : List Touch) (old new : Value) → Writable form n ts old new → levels_in new ≤ suc k → AllLow k (mapped edit_of ts)
 touches_low form n k ts old new w l e i =

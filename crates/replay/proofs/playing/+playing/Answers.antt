@@ -1,5 +1,5 @@
 use Rattle.std.proofs.Common.{◌≡◌, ◌+◌, ◌∷◌, [], refl, sym, ap, ◌∙◌, subst, map, take, drop, List, arith, rules}
-use Rattle.doc_path.proofs.Steps.{on_ok}
+use Rattle.doc_path.proofs.Steps.{on_ok, on_err}
 use Rattle.bson_value.proofs.Depth.{le-most}
 use Rattle.entry_model.specs.declared.entry.Entry.{Entry, size-Entry}
 use Rattle.entry_model.specs.declared.entry.Action.{out-Action, the_lemmas}
@@ -8,7 +8,7 @@ use Rattle.coll_state.specs.Rows.{Document}
 use Rattle.replay.specs.Moves.{Step, definition_moves, normal_of, moves_at, steps_of, item_count, total}
 use Rattle.replay.specs.Steps.{Made, Stopped}
 use Rattle.replay.proofs.Folds.{count_group, count_one, steps_config, steps_group, steps_indexes, steps_one}
-use Rattle.replay.proofs.Made.{made_one, made_append, stopped_one, stopped_in, gathered_more, gathered_at, total_more, total_at, on_err, err_of}
+use Rattle.replay.proofs.Made.{made_one, made_append, stopped_one, stopped_in, gathered_more, gathered_at, total_more, total_at, err_of}
 use Rattle.replay.proofs.playing.+playing.Goals as goal
 
 pub play-returns-then-is_config-clause-ok : goal.play-returns-then-is_config-clause-ok
