@@ -9,11 +9,11 @@ use Rattle.bson_value.specs.NamespaceOrder.{namespace_cmp}
 use Rattle.state_model.specs.Keys.{Key, same_ns}
 use Rattle.state_model.proofs.Keys.{ns_is}
 use Rattle.coll_state.specs.declared.change.Change.{Change}
-use Rattle.coll_state.specs.declared.prepared.Prepared.{Prepared}
+use Rattle.coll_state.specs.declared.prepared_change.PreparedChange.{PreparedChange}
 use Rattle.coll_state.specs.Rows.{Document, Table, Rows, AreSound}
 use Rattle.coll_state.specs.Changes.{Tables, put_table, drop_table, or_fresh}
 use Rattle.coll_state.specs.ChangeAll.{changed_by, AreThere, HasId, HaveIds}
-use Rattle.coll_state.specs.Prepared.{change_of, changes_of, HasRoom, RoomFor, LosesOne, Keeps, AllKeep, AllLoseOne}
+use Rattle.coll_state.specs.PreparedChange.{change_of, changes_of, HasRoom, RoomFor, LosesOne, Keeps, AllKeep, AllLoseOne}
 use Rattle.coll_state.specs.Stock.{Stock}
 use Rattle.coll_state.specs.Tables.{Stocks, tables_in, stock_at}
 use Rattle.coll_state.proofs.Named.{get_there, updated, written}
@@ -63,11 +63,11 @@ has_lost room None (Some t) h k = absurd h
 has_lost room (Some s) None h k = absurd k
 has_lost room (Some s) (Some t) h k = omega arith
 
-pub room_kept : (room : ℕ) (ps : List Prepared) (m n : Stocks) → AllKeep m n → RoomFor room ps m → RoomFor room ps n
+pub room_kept : (room : ℕ) (ps : List PreparedChange) (m n : Stocks) → AllKeep m n → RoomFor room ps m → RoomFor room ps n
 room_kept room [] m n k h = tt
 room_kept room (p ∷ ps) m n k h = (has_kept room (stock_at m p.ns) (stock_at n p.ns) h.0 (k p.ns), room_kept room ps m n k h.1)
 
-pub room_lost : (room : ℕ) (ps : List Prepared) (m n : Stocks) → AllLoseOne m n → RoomFor (suc room) ps m → RoomFor room ps n
+pub room_lost : (room : ℕ) (ps : List PreparedChange) (m n : Stocks) → AllLoseOne m n → RoomFor (suc room) ps m → RoomFor room ps n
 room_lost room [] m n k h = tt
 room_lost room (p ∷ ps) m n k h = (has_lost room (stock_at m p.ns) (stock_at n p.ns) h.0 (k p.ns), room_lost room ps m n k h.1)
 
@@ -75,35 +75,35 @@ has_one : (room : ℕ) (o : Option Stock) → HasRoom (suc room) o → HasRoom 1
 has_one room None h = absurd h
 has_one room (Some s) h = omega arith
 
-pub room_now : (p : Prepared) (ps : List Prepared) (m : Stocks) → RoomFor (length (p ∷ ps)) (p ∷ ps) m → HasRoom 1 (stock_at m p.ns)
+pub room_now : (p : PreparedChange) (ps : List PreparedChange) (m : Stocks) → RoomFor (length (p ∷ ps)) (p ∷ ps) m → HasRoom 1 (stock_at m p.ns)
 room_now p ps m h = has_one (length ps) (stock_at m p.ns) h.0
 
-pub room_later : (p : Prepared) (ps : List Prepared) (m n : Stocks) → AllLoseOne m n → RoomFor (length (p ∷ ps)) (p ∷ ps) m → RoomFor (length ps) ps n
+pub room_later : (p : PreparedChange) (ps : List PreparedChange) (m n : Stocks) → AllLoseOne m n → RoomFor (length (p ∷ ps)) (p ∷ ps) m → RoomFor (length ps) ps n
 room_later p ps m n k h = room_lost (length ps) ps m n k h.1
 
 -- one more of a list has room
-pub room_next : (room i : ℕ) (ps : List Prepared) (p : Prepared) (m : Stocks) → i < length ps → p ≡ slice_index_or ps i p → RoomFor room (take i ps) m → HasRoom room (stock_at m p.ns) → RoomFor room (take (i + 1) ps) m
+pub room_next : (room i : ℕ) (ps : List PreparedChange) (p : PreparedChange) (m : Stocks) → i < length ps → p ≡ slice_index_or ps i p → RoomFor room (take i ps) m → HasRoom room (stock_at m p.ns) → RoomFor room (take (i + 1) ps) m
 room_next room i ps p m l e h r = subst (λ (n : ℕ). RoomFor room (take n ps) m) {x = suc i} (omega arith) (at i ps l e h)
   where
-    at : (i : ℕ) (ps : List Prepared) → i < length ps → p ≡ slice_index_or ps i p → RoomFor room (take i ps) m → RoomFor room (take (suc i) ps) m
+    at : (i : ℕ) (ps : List PreparedChange) → i < length ps → p ≡ slice_index_or ps i p → RoomFor room (take i ps) m → RoomFor room (take (suc i) ps) m
     at i [] l e h = absurd (omega arith)
-    at zero (q ∷ ps) l e h = (subst (λ (z : Prepared). HasRoom room (stock_at m z.ns)) e r, none ps)
+    at zero (q ∷ ps) l e h = (subst (λ (z : PreparedChange). HasRoom room (stock_at m z.ns)) e r, none ps)
       where
-        none : (ps : List Prepared) → RoomFor room (take zero ps) m
+        none : (ps : List PreparedChange) → RoomFor room (take zero ps) m
         none [] = tt
         none (q ∷ ps) = tt
     at (suc i) (q ∷ ps) l e h = (h.0, at i ps (omega arith) e h.1)
 
-pub there_at : (i : ℕ) (ps : List Prepared) (p : Prepared) (ts : Tables) → i < length ps → p ≡ slice_index_or ps i p → AreThere (changes_of ps) ts → map.contains_key ts p.ns ≡ true
+pub there_at : (i : ℕ) (ps : List PreparedChange) (p : PreparedChange) (ts : Tables) → i < length ps → p ≡ slice_index_or ps i p → AreThere (changes_of ps) ts → map.contains_key ts p.ns ≡ true
 there_at i [] p ts l e h = absurd (omega arith)
-there_at zero (q ∷ ps) p ts l e h = subst (λ (z : Prepared). map.contains_key ts z.ns ≡ true) (sym e) h.0
+there_at zero (q ∷ ps) p ts l e h = subst (λ (z : PreparedChange). map.contains_key ts z.ns ≡ true) (sym e) h.0
 there_at (suc i) (q ∷ ps) p ts l e h = there_at i ps p ts (omega arith) e h.1
 
-pub take_whole : (ps : List Prepared) → take (length ps) ps ≡ ps
+pub take_whole : (ps : List PreparedChange) → take (length ps) ps ≡ ps
 take_whole [] = refl
-take_whole (p ∷ ps) = ap (λ (z : List Prepared). p ∷ z) (take_whole ps)
+take_whole (p ∷ ps) = ap (λ (z : List PreparedChange). p ∷ z) (take_whole ps)
 
-pub room_nothing : (room : ℕ) (ps : List Prepared) (m : Stocks) → RoomFor room (take zero ps) m
+pub room_nothing : (room : ℕ) (ps : List PreparedChange) (m : Stocks) → RoomFor room (take zero ps) m
 room_nothing room [] m = tt
 room_nothing room (q ∷ ps) m = tt
 
@@ -139,11 +139,11 @@ append_assoc : (xs bs cs : List Change) → (xs ++ bs) ++ cs ≡ xs ++ (bs ++ cs
 append_assoc [] bs cs = refl
 append_assoc (a ∷ xs) bs cs = ap (λ (z : List Change). a ∷ z) (append_assoc xs bs cs)
 
-changes_append : (ps qs : List Prepared) → changes_of (ps ++ qs) ≡ changes_of ps ++ changes_of qs
+changes_append : (ps qs : List PreparedChange) → changes_of (ps ++ qs) ≡ changes_of ps ++ changes_of qs
 changes_append [] qs = refl
 changes_append (p ∷ ps) qs = ap (λ (z : List Change). change_of p ∷ z) (changes_append ps qs)
 
-pub listed : (ps : List Prepared) (p : Prepared) (c : Change) (cs all : List Change) → change_of p ≡ c → changes_of ps ++ (c ∷ cs) ≡ all → changes_of (ps ++ p ∷ []) ++ cs ≡ all
+pub listed : (ps : List PreparedChange) (p : PreparedChange) (c : Change) (cs all : List Change) → change_of p ≡ c → changes_of ps ++ (c ∷ cs) ≡ all → changes_of (ps ++ p ∷ []) ++ cs ≡ all
 listed ps p c cs all e h =
     ap (λ (z : List Change). z ++ cs) (changes_append ps (p ∷ [])) ∙ (append_assoc (changes_of ps) (change_of p ∷ []) cs ∙ (ap (λ (z : Change). changes_of ps ++ (z ∷ cs)) e ∙ h))
 
@@ -157,7 +157,7 @@ pub nothing_behind : (cs : List Change) → cs ++ [] ≡ cs
 nothing_behind [] = refl
 nothing_behind (c ∷ cs) = ap (λ (z : List Change). c ∷ z) (nothing_behind cs)
 
-pub length_of : (ps : List Prepared) → length (changes_of ps) ≡ length ps
+pub length_of : (ps : List PreparedChange) → length (changes_of ps) ≡ length ps
 length_of [] = refl
 length_of (p ∷ ps) = ap suc (length_of ps)
 

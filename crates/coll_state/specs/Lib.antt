@@ -8,5 +8,5 @@ pub mod Stock
 pub mod Tables
 pub mod Walks
 pub mod ChangeAll
-pub mod Prepared
+pub mod PreparedChange
 pub mod Laws

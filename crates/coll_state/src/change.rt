@@ -4,11 +4,11 @@ ghost use Rattle.std.specs.FinMap as map;
 ghost use Rattle.bson_encode.specs.Key.{key_of};
 ghost use Rattle.coll_state.specs.Rows.{AreSound};
 ghost use Rattle.coll_state.specs.ChangeAll.{change_one, change_all, HasId, HaveIds, AreThere};
-ghost use Rattle.coll_state.specs.Prepared.{change_of, changes_of, HasRoom, RoomFor, AllKeep, AllLoseOne};
+ghost use Rattle.coll_state.specs.PreparedChange.{change_of, changes_of, HasRoom, RoomFor, AllKeep, AllLoseOne};
 ghost use Rattle.coll_state.specs.Tables.{tables_in, stock_at};
 
 use crate::kept::KeptDocument;
-use crate::prepared::Prepared;
+use crate::prepared_change::PreparedChange;
 use crate::state::key_of;
 use crate::tables::Tables;
 use bson_value::{Doc, List, NsName, Value};
@@ -31,14 +31,14 @@ fn document_of(alloc: Global, doc: Option<Doc>) -> Result<Option<KeptDocument>, 
     }
 }
 
-fn prepare_one(alloc: Global, change: Change) -> Result<Prepared, AllocError>
+fn prepare_one(alloc: Global, change: Change) -> Result<PreparedChange, AllocError>
     requires { HasId change.id change.doc }
     ensures { IfOk result (λ p. change_of p ≡ change) }
 {
     let Change { ns, id, doc } = change;
     let key = key_of(alloc, &id)?;
     let document = document_of(alloc, doc)?;
-    Ok(Prepared {
+    Ok(PreparedChange {
         ns,
         id,
         key,
@@ -47,7 +47,10 @@ fn prepare_one(alloc: Global, change: Change) -> Result<Prepared, AllocError>
 }
 
 /// The changes, made ready.
-pub(crate) fn prepare(alloc: Global, changes: List<Change>) -> Result<Vec<Prepared>, AllocError>
+pub(crate) fn prepare(
+    alloc: Global,
+    changes: List<Change>,
+) -> Result<Vec<PreparedChange>, AllocError>
     requires { HaveIds changes }
     ensures { IfOk result (λ ps. changes_of ps.items ≡ changes) }
 {
@@ -72,14 +75,14 @@ fn reserve_one(tables: &mut Tables, ns: &NsName, more: usize) -> Result<(), Allo
 }
 
 /// Makes a change, where there is room for it, and counts a document that is put.
-fn apply_one(tables: &mut Tables, count: u128, change: Prepared) -> u128
+fn apply_one(tables: &mut Tables, count: u128, change: PreparedChange) -> u128
     requires room { HasRoom 1 (stock_at tables.old change.ns) }
     requires sound { AreSound (record { tables = tables_in tables.old; count = count }) }
     requires count { count < 2 ^ 127 }
     ensures rows { (record { tables = tables_in tables.new; count = result }) ≡ change_one (change_of change) (record { tables = tables_in tables.old; count = count }) }
     ensures keeps { AllLoseOne tables.old tables.new }
 {
-    let Prepared {
+    let PreparedChange {
         ns,
         id,
         key,
@@ -101,7 +104,7 @@ fn apply_one(tables: &mut Tables, count: u128, change: Prepared) -> u128
 }
 
 /// Room in its collection for as many documents as there are changes, for each of them.
-pub(crate) fn reserve(tables: &mut Tables, changes: &[Prepared]) -> Result<(), AllocError>
+pub(crate) fn reserve(tables: &mut Tables, changes: &[PreparedChange]) -> Result<(), AllocError>
     requires { AreThere (changes_of changes.now) (tables_in tables.old) }
     ensures tables { tables_in tables.new ≡ tables_in tables.old }
     ensures ok { OnOk result (RoomFor (length changes.now) changes.now tables.new) }
@@ -114,7 +117,7 @@ pub(crate) fn reserve(tables: &mut Tables, changes: &[Prepared]) -> Result<(), A
 }
 
 /// Makes the changes, where there is room for them, and counts the documents that are put.
-pub(crate) fn apply(tables: &mut Tables, count: u128, changes: Vec<Prepared>) -> u128
+pub(crate) fn apply(tables: &mut Tables, count: u128, changes: Vec<PreparedChange>) -> u128
     requires room { RoomFor (length changes.items) changes.items tables.old }
     requires sound { AreSound (record { tables = tables_in tables.old; count = count }) }
     requires count { count + length changes.items < 2 ^ 127 }

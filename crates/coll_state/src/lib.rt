@@ -7,7 +7,7 @@ mod collection;
 mod documents;
 mod kept;
 mod laws;
-mod prepared;
+mod prepared_change;
 mod state;
 mod tables;
 mod walks;

@@ -1,5 +1,5 @@
 -- What a change of one collection leaves as it is, and what is kept of indexes then.
-use Rattle.std.proofs.Common.{◌≡◌, List, false, refl, sym, subst, ◌∙◌, Option, Some, None}
+use Rattle.std.proofs.Common.{◌≡◌, false, refl, sym, subst, ◌∙◌, Option, Some, None}
 use Rattle.std.specs.FinMap as map
 use Rattle.bson_value.specs.declared.namespace.NsName.{NsName}
 use Rattle.json_tree.specs.declared.tree.Tree.{Tree}

@@ -22,7 +22,7 @@ use Rattle.history_model.specs.Commands.{RecordedWrite, document_changes, rows_o
 use Rattle.history_model.specs.Entries.{item_entry, entry_with}
 use Rattle.history_model.specs.Refusals.{document_refusal}
 use Rattle.command_refusals.specs.Keyed.{AreKeyed}
-use Rattle.transactions.specs.declared.recorded.Recorded.{Recorded}
+use Rattle.transactions.specs.declared.change_record.ChangeRecord.{ChangeRecord}
 use Rattle.transactions.specs.Scratch.{HasSpaces}
 use Rattle.transactions.specs.Steps.{IsStep, IsAppended}
 use Rattle.transactions.specs.Transactions.{write_of, AreMade, Answers, IsGood, AreGood}
@@ -126,7 +126,7 @@ made_more ts changes entries ms x e m h w g = record {
 }
 
 -- a command that makes a change
-one_more : (ts : Ts) (f : Form) (cs : List DocumentCommand) (i : ℕ) (c : DocumentCommand) (x : Recorded) (entry : Entry) (start now new : Rows) (changes more : List Change) (entries behind : List Entry) → drop i cs ≡ c ∷ drop (i + 1) cs →
+one_more : (ts : Ts) (f : Form) (cs : List DocumentCommand) (i : ℕ) (c : DocumentCommand) (x : ChangeRecord) (entry : Entry) (start now new : Rows) (changes more : List Change) (entries behind : List Entry) → drop i cs ≡ c ∷ drop (i + 1) cs →
     HaveMade ts f cs i start now changes entries → IsStep true f c (Ok (Some x)) now new → more ≡ changes ++ x.change ∷ [] → entry ≡ entry_with ts x.change.ns x.action → behind ≡ entries ++ entry ∷ [] → HaveMade ts f cs (i + 1) start new more behind
 one_more ts f cs i c x entry start now new changes more entries behind l h s a e b =
     (let left = drop (i + 1) cs in
@@ -147,7 +147,7 @@ one_more ts f cs i c x entry start now new changes more entries behind l h s a e
     })))
 
 -- a command that isn't refused
-pub step_more : (ts : Ts) (f : Form) (cs : List DocumentCommand) (i : ℕ) (c : DocumentCommand) (o : Option Recorded) (start now new : Rows) (changes more : List Change) (entries behind : List Entry) → drop i cs ≡ c ∷ drop (i + 1) cs → HaveMade ts f cs i start now changes entries →
+pub step_more : (ts : Ts) (f : Form) (cs : List DocumentCommand) (i : ℕ) (c : DocumentCommand) (o : Option ChangeRecord) (start now new : Rows) (changes more : List Change) (entries behind : List Entry) → drop i cs ≡ c ∷ drop (i + 1) cs → HaveMade ts f cs i start now changes entries →
     IsStep true f c (Ok o) now new → IsAppended ts o changes entries more behind → HaveMade ts f cs (i + 1) start new more behind
 step_more ts f cs i c None start now new changes more entries behind l h s a =
     subst (λ (z : List Change). HaveMade ts f cs (i + 1) start new z behind) (sym a.0) (subst (λ (z : List Entry). HaveMade ts f cs (i + 1) start new changes z) (sym a.1) (nothing_more ts f cs i c start now new changes entries l h s))

@@ -23,7 +23,7 @@ use Rattle.command_refusals.specs.Keyed.{documents}
 use Rattle.command_refusals.specs.Tests.{rows_refusal, some_clash, some_parallel, refusal_by}
 use Rattle.command_refusals.proofs.DocumentRows.{insert_row, replace_row, update_row, delete_row}
 use Rattle.command_refusals.proofs.RowTests.{put_told}
-use Rattle.transactions.specs.declared.recorded.Recorded.{Recorded}
+use Rattle.transactions.specs.declared.change_record.ChangeRecord.{ChangeRecord}
 use Rattle.transactions.specs.Steps.{IsStep}
 use Rattle.transactions.specs.Shown.{keyed, ShowsIn, Shows}
 
@@ -58,7 +58,7 @@ there_refused c r e =
     ∙ sym (λ i. first_of ((not (e i) && not (makes false c), NoSuchNamespace) ∷ later_rows c r))
 
 -- a command on a collection that is there
-pub step_in : (f : Form) (c : DocumentCommand) (a : Result (Option Recorded) Refused) (old new : Rows) → is_there (namespace_of c) old ≡ true → IsStep false f c a old new → IsStep true f c a old new
+pub step_in : (f : Form) (c : DocumentCommand) (a : Result (Option ChangeRecord) Refused) (old new : Rows) → is_there (namespace_of c) old ≡ true → IsStep false f c a old new → IsStep true f c a old new
 step_in f c (Err x) old new t h = there_refused c old t ∙ h
 step_in f c (Ok None) old new t h = (there_refused c old t ∙ h.0, h.1, h.2)
 step_in f c (Ok (Some x)) old new t h = (there_refused c old t ∙ h.0, h.1)

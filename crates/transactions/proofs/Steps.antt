@@ -32,7 +32,7 @@ use Rattle.history_model.specs.Commands.{RecordedWrite, put_change, insert_chang
 use Rattle.history_model.proofs.Accepted.{all_false}
 use Rattle.stored_documents.proofs.Sizes.{first_id, good_id, good_short}
 use Rattle.stored_documents.proofs.Updates.{keeps_id, stays_short}
-use Rattle.transactions.specs.declared.recorded.Recorded.{Recorded}
+use Rattle.transactions.specs.declared.change_record.ChangeRecord.{ChangeRecord}
 use Rattle.transactions.specs.Transactions.{write_by, IsGood}
 use Rattle.transactions.specs.Steps.{changes_nothing, update_made, IsPut, IsMade, IsStep}
 use Rattle.history_model.proofs.IndexesHeld.{is_good}
@@ -53,7 +53,7 @@ put_good c n d old new p t s = record {
   short = λ e q. subst (λ (z : Document). is_short z ≡ true) (the_document c d e p.document q) s;
 }
 
-put_made : (f : Form) (k : DocumentCommand) (n : NsName) (d : Document) (i : Item) (x : Recorded) (old new : Rows) → IsPut x.change n d old new → map.contains_key old.tables n ≡ true → is_short d ≡ true →
+put_made : (f : Form) (k : DocumentCommand) (n : NsName) (d : Document) (i : Item) (x : ChangeRecord) (old new : Rows) → IsPut x.change n d old new → map.contains_key old.tables n ≡ true → is_short d ≡ true →
     document_changes f k old ≡ (writes.Put n (key_of x.change.id) d, i) ∷ [] → ((ts : Ts) → item_entry ts i ≡ entry_with ts n x.action) → IsMade f k x old new
 put_made f k n d i x old new p t s e g = record {
   item = i;
@@ -76,7 +76,7 @@ good_named d g = ap (λ (o : Option Value). is_some o) (first_id d) ∙ good_id 
 
 -- ---- inserts
 
-pub insert_made : (f : Form) (n : NsName) (d : Document) (x : Recorded) (old new : Rows) → document_refusal false (Insert n d) old ≡ None → map.contains_key old.tables n ≡ true → IsPut x.change n (id_first d) old new → x.action ≡ actions.Put (id_first d) →
+pub insert_made : (f : Form) (n : NsName) (d : Document) (x : ChangeRecord) (old new : Rows) → document_refusal false (Insert n d) old ≡ None → map.contains_key old.tables n ≡ true → IsPut x.change n (id_first d) old new → x.action ≡ actions.Put (id_first d) →
     IsStep false f (Insert n d) (Ok (Some x)) old new
 insert_made f n d x old new h t p a =
     (let named : id_of d ≡ Some x.change.id = sym (first_id d) ∙ p.id in (
@@ -115,7 +115,7 @@ pub replace_kept : (f : Form) (n : NsName) (d : Document) (id : Value) (b : Bool
     IsStep false f (Replace n d) (Ok None) r r
 replace_kept f n d id b r h e g t = (h, replace_changes_are f n d id r b e g ∙ ap (λ (x : Bool). unless x (put_change n id (id_first d) (entries.Whole n id (id_first d)) ∷ [])) t, refl)
 
-pub replace_made : (f : Form) (n : NsName) (d : Document) (id : Value) (b : Bool) (x : Recorded) (old new : Rows) → document_refusal false (Replace n d) old ≡ None → map.contains_key old.tables n ≡ true → id_of (id_first d) ≡ Some id →
+pub replace_made : (f : Form) (n : NsName) (d : Document) (id : Value) (b : Bool) (x : ChangeRecord) (old new : Rows) → document_refusal false (Replace n d) old ≡ None → map.contains_key old.tables n ≡ true → id_of (id_first d) ≡ Some id →
     b ≡ changes_nothing (document_at n (key_of id) old.tables) (id_first d) → b ≡ false → IsPut x.change n (id_first d) old new → x.action ≡ actions.Whole id (id_first d) → IsStep false f (Replace n d) (Ok (Some x)) old new
 replace_made f n d id b x old new h t e g z p a =
     (let one : id ≡ x.change.id = same_some id x.change.id (sym e ∙ p.id) in (
@@ -196,7 +196,7 @@ update_entry f n id d us ts = by (recorded f d us)
     by None = refl
     by (Some r) = refl
 
-pub update_done : (f : Form) (n : NsName) (id : Value) (ops : Document) (u : Updated) (b : Bool) (x : Recorded) (old new : Rows) → document_refusal false (Update n id ops) old ≡ None → map.contains_key old.tables n ≡ true →
+pub update_done : (f : Form) (n : NsName) (id : Value) (ops : Document) (u : Updated) (b : Bool) (x : ChangeRecord) (old new : Rows) → document_refusal false (Update n id ops) old ≡ None → map.contains_key old.tables n ≡ true →
     Some u ≡ update_made (document_at n (key_of id) old.tables) ops → IsUpdated id u → b ≡ changes_nothing (document_at n (key_of id) old.tables) u.doc → b ≡ false → IsPut x.change n u.doc old new → x.action ≡ action_of f id u.doc u.touches →
     IsStep false f (Update n id ops) (Ok (Some x)) old new
 update_done f n id ops u b x old new h t e w g z p a =
@@ -211,7 +211,7 @@ update_done f n id ops u b x old new h t e w g z p a =
 
 -- ---- deletions
 
-pub delete_made : (f : Form) (n : NsName) (id : Value) (x : Recorded) (old new : Rows) → document_refusal false (Delete n id) old ≡ None → map.contains_key old.tables n ≡ true → x.change.ns ≡ n → x.change.id ≡ id → x.change.doc ≡ None → x.action ≡ actions.Remove id →
+pub delete_made : (f : Form) (n : NsName) (id : Value) (x : ChangeRecord) (old new : Rows) → document_refusal false (Delete n id) old ≡ None → map.contains_key old.tables n ≡ true → x.change.ns ≡ n → x.change.id ≡ id → x.change.doc ≡ None → x.action ≡ actions.Remove id →
     new ≡ remove n (key_of id) old → IsStep false f (Delete n id) (Ok (Some x)) old new
 delete_made f n id x old new h t a b c e g = (
   h,

@@ -19,7 +19,7 @@ use Rattle.schedule_model.specs.declared.refused.Refused.{Refused}
 use Rattle.history_model.specs.Commands.{document_changes}
 use Rattle.history_model.specs.Entries.{Item, entry_with, item_entry}
 use Rattle.history_model.specs.Refusals.{accepted, document_refusal}
-use Rattle.transactions.specs.declared.recorded.Recorded.{Recorded}
+use Rattle.transactions.specs.declared.change_record.ChangeRecord.{ChangeRecord}
 use Rattle.transactions.specs.Transactions.{write_of, IsGood}
 
 -- a document that is equal to the one that stands is no change; nor is one in whose place none stands
@@ -40,7 +40,7 @@ pub record IsPut (c : Change) (n : NsName) (d : Document) (old new : Rows) : Typ
   pub after : new ≡ put_under n (key_of c.id) d old
 
 -- a command makes this change alone, with this entry
-pub record IsMade (f : Form) (c : DocumentCommand) (x : Recorded) (old new : Rows) : Type 0 where
+pub record IsMade (f : Form) (c : DocumentCommand) (x : ChangeRecord) (old new : Rows) : Type 0 where
   pub item : Item
   pub changes : document_changes f c old ≡ (write_of x.change, item) ∷ []
   pub entry : (ts : Ts) → item_entry ts item ≡ entry_with ts x.change.ns x.action
@@ -48,12 +48,12 @@ pub record IsMade (f : Form) (c : DocumentCommand) (x : Recorded) (old new : Row
   pub after : new ≡ change_one x.change old
 
 -- a command is refused, or changes nothing, or makes a change
-abbrev pub IsStep : Bool → Form → DocumentCommand → Result (Option Recorded) Refused → Rows → Rows → Type 0
+abbrev pub IsStep : Bool → Form → DocumentCommand → Result (Option ChangeRecord) Refused → Rows → Rows → Type 0
 IsStep in_txn f c (Err e) old new = document_refusal in_txn c old ≡ Some e
 IsStep in_txn f c (Ok None) old new = (document_refusal in_txn c old ≡ None) × (document_changes f c old ≡ []) × (new ≡ old)
 IsStep in_txn f c (Ok (Some x)) old new = (document_refusal in_txn c old ≡ None) × IsMade f c x old new
 
 -- a change and its entry stand behind others, if there is one
-abbrev pub IsAppended : Ts → Option Recorded → List Change → List Entry → List Change → List Entry → Type 0
+abbrev pub IsAppended : Ts → Option ChangeRecord → List Change → List Entry → List Change → List Entry → Type 0
 IsAppended ts None changes entries more behind = (more ≡ changes) × (behind ≡ entries)
 IsAppended ts (Some x) changes entries more behind = (more ≡ changes ++ x.change ∷ []) × (behind ≡ entries ++ entry_with ts x.change.ns x.action ∷ [])

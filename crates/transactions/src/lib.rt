@@ -2,8 +2,8 @@
 //! record them, or the first refusal.
 #![tactic(auto)]
 
+mod change_record;
 mod laws;
-mod recorded;
 mod scratch;
 mod step;
 mod transaction;

@@ -10,7 +10,7 @@ ghost use Rattle.history_model.specs.Refusals.{namespace_of, row_at, update_of, 
 ghost use Rattle.command_refusals.specs.Keyed.{AreKeyed};
 ghost use Rattle.transactions.specs.Steps.{IsPut, IsStep, changes_nothing, update_made};
 
-use crate::recorded::Recorded;
+use crate::change_record::ChangeRecord;
 use bson_value::{Doc, NsName, Value};
 use coll_state::{COUNT_LIMIT, Change, State};
 use command_refusals::{
@@ -27,7 +27,7 @@ use update_action::update_action;
 use update_ops::Updated;
 
 /// What came of a command: a change, none, or why it is refused.
-pub(crate) type Answer = Result<Option<Recorded>, Refused>;
+pub(crate) type Answer = Result<Option<ChangeRecord>, Refused>;
 
 /// The namespace of a command.
 pub(crate) fn namespace_of(command: &DocumentCommand) -> &NsName
@@ -88,7 +88,7 @@ fn insert(alloc: Global, rows: &mut State, ns: &NsName, doc: &Doc) -> Result<Ans
     }
     let copy = first.copy(alloc)?;
     let change = put(alloc, rows, ns, first)?;
-    Ok(Ok(Some(Recorded {
+    Ok(Ok(Some(ChangeRecord {
         change,
         action: Action::Put { doc: copy },
     })))
@@ -121,7 +121,7 @@ fn replace(alloc: Global, rows: &mut State, ns: &NsName, doc: &Doc) -> Result<An
     }
     let copy = first.copy(alloc)?;
     let change = put(alloc, rows, ns, first)?;
-    Ok(Ok(Some(Recorded {
+    Ok(Ok(Some(ChangeRecord {
         change,
         action: Action::Whole { id, doc: copy },
     })))
@@ -163,7 +163,7 @@ fn update(
     }
     let action = update_action(alloc, id, &doc, touches.as_slice(), form)?;
     let change = put(alloc, rows, ns, doc)?;
-    Ok(Ok(Some(Recorded { change, action })))
+    Ok(Ok(Some(ChangeRecord { change, action })))
 }
 
 fn delete(alloc: Global, rows: &mut State, ns: &NsName, id: &Value) -> Result<Answer, AllocError>
@@ -182,7 +182,7 @@ fn delete(alloc: Global, rows: &mut State, ns: &NsName, id: &Value) -> Result<An
         id: id.copy(alloc)?,
     };
     let _ = rows.remove(ns, id);
-    Ok(Ok(Some(Recorded { change, action })))
+    Ok(Ok(Some(ChangeRecord { change, action })))
 }
 
 /// Tests a command of a transaction on the collections, and makes its change where it isn't refused. `form` is that

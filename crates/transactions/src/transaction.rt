@@ -7,7 +7,7 @@ ghost use Rattle.command_refusals.specs.Keyed.{AreKeyed};
 ghost use Rattle.transactions.specs.Steps.{IsAppended};
 ghost use Rattle.transactions.specs.Transactions.{Answers, AreGood};
 
-use crate::recorded::Recorded;
+use crate::change_record::ChangeRecord;
 use crate::scratch::touched;
 use crate::step::step;
 use bson_value::{List, Ts};
@@ -26,11 +26,11 @@ pub struct Transaction {
 }
 
 // The entry of a change.
-fn entry_of(alloc: Global, ts: Ts, recorded: Recorded) -> Result<(Change, Entry), AllocError>
+fn entry_of(alloc: Global, ts: Ts, recorded: ChangeRecord) -> Result<(Change, Entry), AllocError>
     ensures change { IfOk result (λ made. made.0 ≡ recorded.change) }
     ensures entry { IfOk result (λ made. made.1 ≡ entry_with ts recorded.change.ns recorded.action) }
 {
-    let Recorded { change, action } = recorded;
+    let ChangeRecord { change, action } = recorded;
     let ns = change.ns.copy(alloc)?;
     Ok((change, Entry { ts, ns, action }))
 }
@@ -39,7 +39,7 @@ fn entry_of(alloc: Global, ts: Ts, recorded: Recorded) -> Result<(Change, Entry)
 fn add(
     alloc: Global,
     ts: Ts,
-    recorded: Option<Recorded>,
+    recorded: Option<ChangeRecord>,
     changes: &mut List<Change>,
     entries: &mut List<Entry>,
 ) -> Result<(), AllocError>

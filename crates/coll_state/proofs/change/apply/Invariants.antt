@@ -1,7 +1,7 @@
 use Rattle.std.proofs.Common.{◌≡◌, ◌+◌, ◌<◌, ◌^◌, length}
 use Rattle.coll_state.specs.Rows.{AreSound}
 use Rattle.coll_state.specs.ChangeAll.{change_all}
-use Rattle.coll_state.specs.Prepared.{changes_of, RoomFor}
+use Rattle.coll_state.specs.PreparedChange.{changes_of, RoomFor}
 use Rattle.coll_state.specs.Tables.{tables_in}
 use Rattle.coll_state.proofs.change.apply.Given as goal
 

@@ -1,6 +1,6 @@
 use Rattle.std.proofs.Common.{◌≡◌, ◌++◌}
 use Rattle.coll_state.specs.ChangeAll.{HaveIds}
-use Rattle.coll_state.specs.Prepared.{changes_of}
+use Rattle.coll_state.specs.PreparedChange.{changes_of}
 use Rattle.coll_state.proofs.change.prepare.Given as goal
 
 abbrev pub invariant-loop-change : goal.invariant-loop-change

@@ -1,8 +1,8 @@
 use Rattle.std.proofs.Common.{◌≡◌, ℕ, List, length, take, arith, sym, ap, ◌∙◌, refl, subst, true}
 use Rattle.std.specs.FinMap as map
-use Rattle.coll_state.specs.declared.prepared.Prepared.{Prepared}
+use Rattle.coll_state.specs.declared.prepared_change.PreparedChange.{PreparedChange}
 use Rattle.coll_state.specs.Changes.{Tables}
-use Rattle.coll_state.specs.Prepared.{RoomFor}
+use Rattle.coll_state.specs.PreparedChange.{RoomFor}
 use Rattle.coll_state.specs.Tables.{tables_in}
 use Rattle.coll_state.proofs.Rooms.{room_kept, room_next, there_at, take_whole, room_nothing}
 use Rattle.coll_state.proofs.change.reserve.Goals as goal
@@ -32,4 +32,4 @@ returns-clause-tables c = c.loop-change.invariant.0
 pub returns-clause-ok : goal.returns-clause-ok
 returns-clause-ok c =
     let end : c.loop-change.change-index ≡ length c.args.changes.now = omega (arith, c.loop-change-test.false, c.loop-change.auto.change-index-end) in
-    subst (λ (ps : List Prepared). RoomFor (length c.args.changes.now) ps c.loop-change.tables) (ap (λ (n : ℕ). take n c.args.changes.now) end ∙ take_whole c.args.changes.now) c.loop-change.invariant.1
+    subst (λ (ps : List PreparedChange). RoomFor (length c.args.changes.now) ps c.loop-change.tables) (ap (λ (n : ℕ). take n c.args.changes.now) end ∙ take_whole c.args.changes.now) c.loop-change.invariant.1

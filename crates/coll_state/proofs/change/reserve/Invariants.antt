@@ -1,5 +1,5 @@
 use Rattle.std.proofs.Common.{◌≡◌, take}
-use Rattle.coll_state.specs.Prepared.{RoomFor}
+use Rattle.coll_state.specs.PreparedChange.{RoomFor}
 use Rattle.coll_state.specs.Tables.{tables_in}
 use Rattle.coll_state.proofs.change.reserve.Given as goal
 

@@ -7,7 +7,7 @@ use Rattle.entry_model.specs.declared.entry.Action.TheVariants as actions
 use Rattle.schedule_model.specs.declared.command.DocumentCommand.TheVariants.{Replace}
 use Rattle.history_model.specs.Documents.{id_first}
 use Rattle.history_model.specs.Refusals.{document_refusal}
-use Rattle.transactions.specs.declared.recorded.Recorded.{Recorded}
+use Rattle.transactions.specs.declared.change_record.ChangeRecord.{ChangeRecord}
 use Rattle.transactions.specs.Steps.{IsPut, changes_nothing}
 use Rattle.transactions.proofs.Steps.{replaced_good, good_named, replace_made}
 use Rattle.transactions.proofs.step.replace.Goals as goal
@@ -21,7 +21,7 @@ pub returns : goal.returns
 returns c =
     λ f.
     let none : document_refusal false (Replace c.args.ns.now c.args.doc.now) c.args.rows.now ≡ None = sym c.replace_refusal.ensures ∙ c.in_default.is in
-    let x : Recorded = record { change = c.in_ok-change.change; action = actions.Whole c.in_ok-id.id c.in_ok-copy.copy } in
+    let x : ChangeRecord = record { change = c.in_ok-change.change; action = actions.Whole c.in_ok-id.id c.in_ok-copy.copy } in
     let first : c.in_ok-first.first ≡ id_first c.args.doc.now = c.in_ok-first.ensures in
     let id : id_of (id_first c.args.doc.now) ≡ Some c.in_ok-id.id = ap (λ (z : Document). id_of z) (sym first) ∙ c.in_ok-id.ensures in
     let old = document_at c.args.ns.now (key_of c.in_ok-id.id) c.args.rows.now.tables in

@@ -9,7 +9,7 @@ use containers::SmallBytes;
 
 /// A change that needs no more memory but room in its collection.
 #[derive(Drop)]
-pub(crate) struct Prepared {
+pub(crate) struct PreparedChange {
     pub(crate) ns: NsName,
     pub(crate) id: Value,
     pub(crate) key: SmallBytes,

@@ -2,14 +2,14 @@
 use Rattle.std.specs.Prelude.{⊤, ℕ, ◌+◌, ◌≤◌, List, [], ◌∷◌, map, Option, Some, None}
 use Rattle.bson_value.specs.declared.namespace.NsName.{NsName}
 use Rattle.coll_state.specs.declared.change.Change.{Change}
-use Rattle.coll_state.specs.declared.prepared.Prepared.{Prepared}
+use Rattle.coll_state.specs.declared.prepared_change.PreparedChange.{PreparedChange}
 use Rattle.coll_state.specs.Stock.{Stock}
 use Rattle.coll_state.specs.Tables.{Stocks, stock_at}
 
-abbrev pub change_of : Prepared → Change
+abbrev pub change_of : PreparedChange → Change
 change_of p = record { ns = p.ns; id = p.id; doc = p.document }
 
-abbrev pub changes_of : List Prepared → List Change
+abbrev pub changes_of : List PreparedChange → List Change
 changes_of ps = map change_of ps
 
 -- the collection is there, and has room for so many documents more
@@ -17,7 +17,7 @@ abbrev pub HasRoom : ℕ → Option Stock → Type 0
 HasRoom n None = ⊥
 HasRoom n (Some s) = n ≤ s.room
 
-abbrev pub RoomFor : ℕ → List Prepared → Stocks → Type 0
+abbrev pub RoomFor : ℕ → List PreparedChange → Stocks → Type 0
 RoomFor n [] m = ⊤
 RoomFor n (p ∷ ps) m = HasRoom n (stock_at m p.ns) × RoomFor n ps m
 

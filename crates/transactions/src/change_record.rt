@@ -4,7 +4,7 @@ use entry_model::Action;
 
 /// A change of a document, and the action of its entry.
 #[derive(Drop)]
-pub(crate) struct Recorded {
+pub(crate) struct ChangeRecord {
     pub(crate) change: Change,
     pub(crate) action: Action,
 }
