@@ -11,12 +11,13 @@ use Rattle.doc_path.specs.declared.touches.Touch.{Touch}
 use Rattle.entry_model.specs.Edits.{Step, Sets, Unsets, Resizes, Edit, onto, picked, mapped, gathered, same_part, behind, group, heads, is_before, inserted, rising}
 use Rattle.entry_model.specs.Written.{Fields, section, d_name, u_name, i_name, a_name, v_name, diff_name, s_of, gone_in, set_in, new_in, length_in, set_at, below, at_part, parts, document_diff, array_diff, diff, spelled_v2}
 use Rattle.entry_model.specs.Touches.{edit_of}
+use Rattle.entry_model.proofs.Lists.{own_part}
 use Rattle.entry_writer.specs.declared.level.Kind.TheVariants.{Removed, Changed, Fresh, Length}
 use Rattle.entry_writer.specs.declared.parts.PartEdits.{PartEdits}
 use Rattle.entry_writer.specs.Elements.{document_element}
 use Rattle.entry_writer.specs.declared.edits.Edit.{Edit as Held}
 use Rattle.entry_writer.specs.Edits.{edits_in, part_by}
-use Rattle.entry_writer.specs.Groups.{Group, group_in, groups_in, is_part, members, parts_by, grouped, field_below, fields_at}
+use Rattle.entry_writer.specs.Groups.{Group, group_in, groups_in, is_part, members, parts_by, grouped, field_below, fields_below, fields_at}
 use Rattle.entry_writer.specs.Order.{put_rising, risen, parts_of, IsOnce}
 use Rattle.entry_writer.specs.Levels.{field_in, field_of, fields_of}
 use Rattle.entry_writer.proofs.Bytes.{field_is, both_put, as_fields}
@@ -181,19 +182,23 @@ module _ (n : ℕ) (es : List Edit) where
   abbrev sections : Fields → Fields → Fields → Fields → Fields
   sections a b c d = section d_name a ++ (section u_name b ++ (section i_name c ++ d))
 
-  pub document_put : (gs : List PartEdits) (i : ℕ) (old one two three now : List ℕ) → one ≡ old ++ elements_of (section d_name (fields_of Removed es)) → two ≡ one ++ elements_of (section u_name (fields_of Changed es)) → three ≡ two ++ elements_of (section i_name (fields_of Fresh es)) →
-      groups_in gs ≡ grouped false es → length gs ≤ i → now ≡ three ++ elements_of (mapped (field_below n) (groups_in (take i gs))) → now ≡ old ++ elements_of (document_diff (go n es) es)
-  document_put gs i old one two three now a b c e le inv =
+  pub parts_put : (gs : List PartEdits) (i : ℕ) (old now : List ℕ) → groups_in gs ≡ grouped false es → length gs ≤ i → now ≡ old ++ elements_of (mapped (field_below n) (groups_in (take i gs))) → now ≡ old ++ elements_of (fields_below n es)
+  parts_put gs i old now e le inv =
+      let under : mapped (field_below n) (groups_in gs) ≡ fields_below n es = ap (mapped (field_below n)) e ∙ below_is n es (heads es) in
+      inv ∙ ap (λ (l : List PartEdits). old ++ elements_of (mapped (field_below n) (groups_in l))) (take_all i gs le)
+      ∙ ap (λ (fs : Fields). old ++ elements_of fs) under
+
+  pub document_put : (old one two three now : List ℕ) → one ≡ old ++ elements_of (section d_name (fields_of Removed es)) → two ≡ one ++ elements_of (section u_name (fields_of Changed es)) → three ≡ two ++ elements_of (section i_name (fields_of Fresh es)) →
+      now ≡ three ++ elements_of (fields_below n es) → now ≡ old ++ elements_of (document_diff (go n es) es)
+  document_put old one two three now a b c whole =
       let d2 : Fields = section u_name (fields_of Changed es) in
       let d3 : Fields = section i_name (fields_of Fresh es) in
-      let d4 : Fields = mapped (field_below n) (groups_in gs) in
-      let whole : now ≡ three ++ elements_of d4 = inv ∙ ap (λ (l : List PartEdits). three ++ elements_of (mapped (field_below n) (groups_in l))) (take_all i gs le) in
+      let d4 : Fields = fields_below n es in
       let removed : fields_of Removed es ≡ picked (λ e. gone_in e.0 e.1) es = picked_same (field_of Removed) (λ e. gone_in e.0 e.1) removed_is es in
       let changed : fields_of Changed es ≡ picked (λ e. set_in e.0 e.1) es = picked_same (field_of Changed) (λ e. set_in e.0 e.1) changed_is es in
       let fresh : fields_of Fresh es ≡ picked (λ e. new_in e.0 e.1) es = picked_same (field_of Fresh) (λ e. new_in e.0 e.1) fresh_is es in
-      let under : d4 ≡ mapped (λ r. (s_of r, Object (go n es r))) (heads es) = ap (mapped (field_below n)) e ∙ below_is n es (heads es) in
       both_put old one now (section d_name (fields_of Removed es)) (d2 ++ (d3 ++ d4)) a (both_put one two now d2 (d3 ++ d4) b (both_put two three now d3 d4 c whole))
-      ∙ ap (λ (fs : Fields). old ++ elements_of fs) (λ k. sections (removed k) (changed k) (fresh k) (under k))
+      ∙ ap (λ (fs : Fields). old ++ elements_of fs) (λ k. sections (removed k) (changed k) (fresh k) d4)
 
   pub array_put : (gs : List PartEdits) (i : ℕ) (old one two now : List ℕ) → one ≡ old ++ element (a_name, spelling (Truth true)) → two ≡ one ++ elements_of (fields_of Length es) → groups_in gs ≡ risen (grouped true es) → length gs ≤ i →
       now ≡ two ++ elements_of (gathered (fields_at n) (groups_in (take i gs))) → now ≡ old ++ elements_of (array_diff (go n es) es)
@@ -207,6 +212,18 @@ module _ (n : ℕ) (es : List Edit) where
       ap (gathered (fields_at n)) (e ∙ risen_is (λ r. members true r es) (parts_by true es)) ∙ at_are n es (parts es) in
       both_put old one now v (fields_of Length es ++ d) first (both_put one two now (fields_of Length es) d b whole)
       ∙ ap (λ (fs : Fields). old ++ elements_of fs) (λ k. (a_name, Truth true) ∷ (lengths k ++ each k))
+
+-- ---- a single edit
+
+pub one_below : (n : ℕ) (p : Part) (ps : List Part) (s : Step) → fields_below n ((p ∷ ps, s) ∷ []) ≡ (s_of p, Object (diff n ((ps, s) ∷ []))) ∷ []
+one_below n p ps s = ap (λ (b : Bool). (s_of p, Object (diff n (onto (if b then Some (ps, s) else None) []))) ∷ []) (own_part p)
+
+pub none_below : (n : ℕ) (way : List Part) (s : Step) (out : List ℕ) → way ≡ [] → out ≡ out ++ elements_of (fields_below n ((way, s) ∷ []))
+none_below n way s out e = sym (append-nil out) ∙ ap (λ (ps : List Part). out ++ elements_of (fields_below n ((ps, s) ∷ []))) (sym e)
+
+pub alone_put : (n : ℕ) (way ps : List Part) (p : Part) (s : Step) (old new : List ℕ) → way ≡ p ∷ ps → new ≡ old ++ elements_of ((s_of p, Object (diff n ((ps, s) ∷ []))) ∷ []) → new ≡ old ++ elements_of (fields_below n ((way, s) ∷ []))
+alone_put n way ps p s old new e put =
+    put ∙ ap (λ (fs : Fields). old ++ elements_of fs) (sym (one_below n p ps s) ∙ ap (λ (l : List Part). fields_below n ((l, s) ∷ [])) (sym e))
 
 -- ---- whether there are edits
 

@@ -6,16 +6,12 @@ use Rattle.bson_value.specs.Spelling.{element, spelling, elements_of}
 use Rattle.doc_path.specs.declared.parts.Part.{Part}
 use Rattle.doc_path.specs.declared.touches.Touch.{Touch}
 use Rattle.doc_path.specs.declared.touches.Touch.TheVariants.{Set, Unset, Resize}
-use Rattle.doc_path.specs.Played.{way_and_last}
 use Rattle.entry_model.specs.Edits.{Edit, picked, mapped}
 use Rattle.entry_model.specs.Written.{Fields, path_of, path_set, path_gone, section, v_name, set_name, unset_name, spelled_v1}
 use Rattle.entry_model.specs.Touches.{edit_of}
 use Rattle.entry_writer.specs.Levels.{path_field}
 use Rattle.entry_writer.proofs.Bytes.{elements-append, picked-mapped}
-
-parted : (p : Part) (ps : List Part) → (way_and_last p ps).0 ++ ((way_and_last p ps).1 ∷ []) ≡ p ∷ ps
-parted p [] = refl
-parted p (q ∷ qs) = ap (λ (l : List Part). p ∷ l) (parted q qs)
+use Rattle.entry_model.proofs.Touched.{parted}
 
 pub set_path : (place : List Part) (a : Value) (fresh : Bool) → (place ≡ [] → ⊥) → path_field true (Set place a fresh) ≡ Some (path_of place, a)
 set_path [] a fresh n = absurd (n refl)

@@ -6,7 +6,7 @@ use Rattle.std.specs.BTreeMap.{get, get_by_text}
 use Rattle.bson_value.specs.declared.value.Value.{Value, Object}
 use Rattle.doc_path.specs.declared.parts.Part.{Part}
 use Rattle.doc_path.specs.declared.parts.Part.TheVariants.{Name as name, Index as index}
-use Rattle.entry_model.specs.Edits.{Edit, picked, mapped, same_part, group, once}
+use Rattle.entry_model.specs.Edits.{Edit, picked, mapped, same_part, group, heads, once}
 use Rattle.entry_model.specs.Written.{Fields, s_of, at_part, diff}
 use Rattle.entry_writer.specs.declared.index.Index.{Index}
 use Rattle.entry_writer.specs.declared.parts.PartEdits.{PartEdits}
@@ -60,6 +60,10 @@ joined (suc n) e (g ∷ gs) = g ∷ joined n e gs
 
 abbrev pub field_below : ℕ → Group → List ℕ × Value
 field_below n g = (s_of g.0, Object (diff n (group g.0 g.1)))
+
+-- what a diff of a document has below the parts of edits
+abbrev pub fields_below : ℕ → List Edit → Fields
+fields_below n es = mapped (λ r. (s_of r, Object (diff n (group r es)))) (heads es)
 
 abbrev pub fields_at : ℕ → Group → Fields
 fields_at n g = at_part (λ r. diff n (group r g.1)) g.1 g.0

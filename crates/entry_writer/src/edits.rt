@@ -78,16 +78,25 @@ pub(crate) fn step_of(touch: &Touch) -> Step<'_>
     }
 }
 
+impl<'t> Edit<'t> {
+    /// A touch as an edit of the whole document.
+    pub(crate) fn of(touch: &'t Touch) -> Edit<'t>
+        ensures { edit_in result ≡ edit_of touch.now }
+    {
+        Edit {
+            way: way_of(touch),
+            touch,
+        }
+    }
+}
+
 /// Touches as edits of the whole document.
 pub(crate) fn edits_of<'t>(alloc: Global, touches: &'t [Touch]) -> Result<Vec<Edit<'t>>, AllocError>
     ensures { IfOk result (λ es. edits_in es.items ≡ mapped edit_of touches.now) }
 {
     let mut edits = Vec::new(alloc);
     for touch in touches {
-        edits.push(Edit {
-            way: way_of(touch),
-            touch,
-        })?;
+        edits.push(Edit::of(touch))?;
     }
     Ok(edits)
 }

@@ -12,14 +12,15 @@ use crate::elements::{close, open, open_array, put_element};
 use bson_value::{Bytes, NsName, Ts, Value};
 use doc_path::{Form, Touch};
 use entry_model::{Action, Entry};
+use itoa::Buffer;
 use std::alloc::{AllocError, Global};
 
 /// Appends an item of a group.
 fn put_item(alloc: Global, out: &mut Vec<u8>, at: usize, entry: &Entry) -> Result<(), AllocError>
     ensures { OnOk result (out.new.items ≡ out.old.items ++ element (decimal at, spelling (item_value entry.now))) }
 {
-    let name = format!(in alloc; "{at}")?;
-    open(out, name.as_str())?;
+    let mut buffer = Buffer::new();
+    open(out, buffer.format(at))?;
     let start = out.len();
     put_plain(alloc, out, &entry.ns, &entry.action)?;
     close(out, start)
@@ -90,7 +91,8 @@ const USUAL_LEN: usize = 512;
 
 /// The bytes of the document of an entry, in memory of their own size. They are written at once, and what the entry holds
 /// isn't copied before.
-/// The time is that of the bytes, and of a delta in the second form also that of looking each touch up in a tree at each level of its place.
+/// The time is that of the bytes, and of a delta of several touches in the second form also that of looking each up in a tree at
+/// each level of its place. A single touch takes no memory but that of the bytes.
 pub fn write(alloc: Global, entry: &Entry) -> Result<Bytes, AllocError>
     ensures { IfOk result (λ bytes. bytes ≡ document_text (entry_fields entry.now)) }
 {
@@ -105,7 +107,8 @@ pub fn write(alloc: Global, entry: &Entry) -> Result<Bytes, AllocError>
 }
 
 /// The bytes of a delta in this form: the document that an update's entry has in its field `o`.
-/// The time is that of the bytes, and in the second form also that of looking each touch up in a tree at each level of its place.
+/// The time is that of the bytes, and of several touches in the second form also that of looking each up in a tree at each level
+/// of its place. A single touch takes no memory but that of the bytes.
 pub fn write_delta(alloc: Global, form: Form, touches: &[Touch]) -> Result<Bytes, AllocError>
     ensures { IfOk result (λ bytes. bytes ≡ document_text (written form level_limit touches.now)) }
 {

@@ -7,22 +7,23 @@ ghost use Rattle.entry_writer.specs.Levels.{dotted};
 
 use bson_value::Text;
 use doc_path::Part;
+use itoa::Buffer;
 use std::alloc::{AllocError, Global};
 
-fn push_digits(alloc: Global, text: &mut Text, at: u32) -> Result<(), AllocError>
+fn push_digits(text: &mut Text, at: u32) -> Result<(), AllocError>
     ensures { OnOk result (text.new ≡ text.old ++ digits at) }
 {
-    let name = format!(in alloc; "{at}")?;
-    text.push_str(name.as_str())
+    let mut buffer = Buffer::new();
+    text.push_str(buffer.format(at))
 }
 
 /// Appends the name of a part, or the digits of its index.
-fn push_key(alloc: Global, text: &mut Text, part: &Part) -> Result<(), AllocError>
+fn push_key(text: &mut Text, part: &Part) -> Result<(), AllocError>
     ensures { OnOk result (text.new ≡ text.old ++ key_of part.now) }
 {
     match part {
         Part::Name(name) => text.push_str(name.as_str()),
-        Part::Index(at) => push_digits(alloc, text, *at),
+        Part::Index(at) => push_digits(text, *at),
     }
 }
 
@@ -31,17 +32,17 @@ pub(crate) fn letter_name(alloc: Global, letter: &str, part: &Part) -> Result<Te
     ensures { IfOk result (λ text. text ≡ letter.now ++ key_of part.now) }
 {
     let mut text = Text::of(alloc, letter)?;
-    push_key(alloc, &mut text, part)?;
+    push_key(&mut text, part)?;
     Ok(text)
 }
 
 /// Appends a dot before each part.
-fn push_dotted(alloc: Global, text: &mut Text, parts: &[Part]) -> Result<(), AllocError>
+fn push_dotted(text: &mut Text, parts: &[Part]) -> Result<(), AllocError>
     ensures { OnOk result (text.new ≡ text.old ++ dotted parts.now) }
 {
     for part in parts {
         text.push_str(".")?;
-        push_key(alloc, text, part)?;
+        push_key(text, part)?;
     }
     Ok(())
 }
@@ -55,7 +56,7 @@ pub(crate) fn path_text(alloc: Global, parts: &[Part]) -> Result<Text, AllocErro
     let Some((first, others)) = parts.split_first() else {
         return Ok(text);
     };
-    push_key(alloc, &mut text, first)?;
-    push_dotted(alloc, &mut text, others)?;
+    push_key(&mut text, first)?;
+    push_dotted(&mut text, others)?;
     Ok(text)
 }

@@ -7,7 +7,7 @@ use Rattle.entry_writer.specs.Edits.{edits_in}
 use Rattle.entry_writer.specs.Groups.{groups_in, field_below, fields_at}
 use Rattle.entry_writer.specs.Order.{risen}
 use Rattle.entry_writer.proofs.Bytes.{closed, field_is}
-use Rattle.entry_writer.proofs.Diffs.{grouped_once, fields_put, gathered_put, document_put, array_put, with_below, without_below, no_edits, some_edits}
+use Rattle.entry_writer.proofs.Diffs.{grouped_once, fields_put, parts_put, gathered_put, document_put, array_put, with_below, without_below, no_edits, some_edits}
 use Rattle.entry_writer.proofs.diff.+diff.Goals as goal
 
 pub put_array_diff-rising-requires : goal.put_array_diff-rising-requires
@@ -25,12 +25,19 @@ put_array_diff-loop-group-preserved t c =
 
 pub put_document_diff-returns : goal.put_document_diff-returns
 put_document_diff-returns t c =
-    document_put c.args.levels (edits_in c.args.edits.now) c.as_slice-group-items.result.now c.loop-group.group-index c.args.out.now.items c.put_section.new.out.items c.put_section-2.new.out.items c.put_section-3.new.out.items c.loop-group.out.items
-    c.in_ok-put_section.ensures c.in_ok-put_section-2.ensures c.in_ok-put_section-3.ensures (ap groups_in c.as_slice-group-items.ensures.value ∙ c.in_ok-groups.ensures) c.loop-group-test.false c.loop-group.invariant
+    on_ok_weaker c.put_parts_below.result
+    (λ h. document_put c.args.levels (edits_in c.args.edits.now) c.args.out.now.items c.put_section.new.out.items c.put_section-2.new.out.items c.put_section-3.new.out.items c.put_parts_below.new.out.items
+    c.in_ok-put_section.ensures c.in_ok-put_section-2.ensures c.in_ok-put_section-3.ensures h)
+    c.put_parts_below.ensures
 
-pub put_document_diff-loop-group-preserved : goal.put_document_diff-loop-group-preserved
-put_document_diff-loop-group-preserved t c =
-    fields_put (field_below c.args.levels) c.as_slice-group-items.result.now c.loop-group.group-index c.group-item.result c.put_section-3.new.out.items c.loop-group.out.items c.put_field_below.new.out.items
+pub put_parts_below-returns : goal.put_parts_below-returns
+put_parts_below-returns t c =
+    parts_put c.args.levels (edits_in c.args.edits.now) c.as_slice-group-items.result.now c.loop-group.group-index c.args.out.now.items c.loop-group.out.items
+    (ap groups_in c.as_slice-group-items.ensures.value ∙ c.in_ok-groups.ensures) c.loop-group-test.false c.loop-group.invariant
+
+pub put_parts_below-loop-group-preserved : goal.put_parts_below-loop-group-preserved
+put_parts_below-loop-group-preserved t c =
+    fields_put (field_below c.args.levels) c.as_slice-group-items.result.now c.loop-group.group-index c.group-item.result c.args.out.now.items c.loop-group.out.items c.put_field_below.new.out.items
     c.loop-group-test.true c.group-item.is c.loop-group.invariant c.in_ok-put_field_below.ensures
 
 pub put_at_part-returns-then-is_empty : goal.put_at_part-returns-then-is_empty

@@ -10,6 +10,6 @@ pub returns : goal.returns
 returns c =
     on_ok_weaker c.close.result
     (λ h. object_put c.args.out.now.items (decimal c.args.at) c.open.new.out.items c.put_plain.new.out.items c.close.new.out.items (plain_fields c.args.entry.now.ns c.args.entry.now.action) c.len-start.result
-    (c.in_ok-open.ensures ∙ ap (λ (n : List ℕ). c.args.out.now.items ++ opening n) (c.as_str.ensures.value ∙ c.in_ok-name.ensures.ok))
+    (c.in_ok-open.ensures ∙ ap (λ (n : List ℕ). c.args.out.now.items ++ opening n) c.format.ensures.text)
     (c.len-start.ensures ∙ c.open.new.out.ok.0) c.in_ok-put_plain.ensures h)
     c.close.ensures

@@ -3,4 +3,4 @@ use Rattle.bson_value.proofs.Digits.{digits-is_decimal}
 use Rattle.entry_writer.proofs.names.push_digits.Goals as goal
 
 pub returns : goal.returns
-returns c = rw (digits-is_decimal c.args.at (omega (arith, c.ranges.at.fits)), sym c.in_ok-name.ensures.ok, sym c.as_str.ensures.value) c.push_str.ensures.ok
+returns c = rw (digits-is_decimal c.args.at (omega (arith, c.ranges.at.fits)), sym c.format.ensures.text) c.push_str.ensures.ok
