@@ -4,16 +4,17 @@ use Rattle.bson_value.specs.declared.namespace.NsName.{NsName}
 use Rattle.bson_value.specs.declared.value.Ts.{Ts}
 use Rattle.bson_value.specs.Spelling.{document_text}
 use Rattle.entry_model.specs.Spelling.{entry_fields}
+use Rattle.coll_state.specs.Rows.{Rows}
 use Rattle.coll_state.specs.Changes.{rename}
 use Rattle.copy_model.specs.Writes.{SingleWrite, change_rows}
 use Rattle.schedule_model.specs.declared.command.Command.{Command}
 use Rattle.history_model.specs.Entries.{Item, One, entry_at, entry_bytes}
 use Rattle.history_model.specs.Entries as entries
-use Rattle.history_model.specs.Stages.{Single, Effect, Stage, stage_after, made_in}
+use Rattle.history_model.specs.Stages.{Single, Effect, Stage, Made, stage_after, made_in, rows_by}
 use Rattle.history_model.specs.Stages as stages
 use Rattle.history_model.specs.Indexes.{IndexesHold}
 use Rattle.history_model.specs.Commands.{only, effects, set_by, answered}
-use Rattle.history_model.proofs.IndexesHeld.{applied_holds, rows_of_effects}
+use Rattle.history_model.proofs.IndexesHeld.{applied_holds}
 use Rattle.history_model.proofs.Inductive.{told_same}
 use Rattle.store_log.specs.Logged.{Logged, next_ts, logged}
 use Rattle.store_core.specs.Stores.{Stored}
@@ -21,6 +22,10 @@ use Rattle.store_core.specs.Applying.{Makes, stage_in, stored_set, stored_after,
 use Rattle.store_core.proofs.Bytes.{entry_text}
 
 -- ---- the indexes hold after it
+
+rows_of_effects : List Effect → Rows → Rows
+rows_of_effects [] r = r
+rows_of_effects (d ∷ ds) r = rows_of_effects ds (rows_by d.0 r)
 
 after_rows : (ds : List Effect) (st : Stage) → (stage_after ds st).rows ≡ rows_of_effects ds st.rows
 unfolding rows_of_effects
