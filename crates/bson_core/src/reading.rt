@@ -200,12 +200,17 @@ fn item(
     value(alloc, levels, tag, end, rest)
 }
 
+// Room for the fields of most bodies of this length, and little where there are few.
+fn first_room(len: usize) -> usize {
+    len.div_ceil(16).min(16)
+}
+
 #[cycle(decode)]
 fn fields(alloc: Global, levels: usize, end: usize, body: &[u8]) -> Result<Doc, DecodeFault>
     requires { length body.now ≤ end }
     ensures { Gives (λ d. d) result (fields_at (value_at levels) (length body.now) end [] body.now) }
 {
-    let mut entries = Vec::new(alloc);
+    let mut entries = Vec::with_capacity(alloc, first_room(body.len()))?;
     let mut rest = body;
     let mut names = NameSet::new();
     'fields: while let Some((tag, bytes)) = rest.split_first() {

@@ -92,7 +92,7 @@ const USUAL_LEN: usize = 512;
 /// The bytes of the document of an entry, in memory of their own size. They are written at once, and what the entry holds
 /// isn't copied before.
 /// The time is that of the bytes, and of a delta of several touches in the second form also that of looking each up in a tree at
-/// each level of its place. A single touch takes no memory but that of the bytes.
+/// each level of its place. Such trees are made of a single touch only where its place goes through an array.
 pub fn write(alloc: Global, entry: &Entry) -> Result<Bytes, AllocError>
     ensures { IfOk result (λ bytes. bytes ≡ document_text (entry_fields entry.now)) }
 {
@@ -108,7 +108,7 @@ pub fn write(alloc: Global, entry: &Entry) -> Result<Bytes, AllocError>
 
 /// The bytes of a delta in this form: the document that an update's entry has in its field `o`.
 /// The time is that of the bytes, and of several touches in the second form also that of looking each up in a tree at each level
-/// of its place. A single touch takes no memory but that of the bytes.
+/// of its place. Such trees are made of a single touch only where its place goes through an array.
 pub fn write_delta(alloc: Global, form: Form, touches: &[Touch]) -> Result<Bytes, AllocError>
     ensures { IfOk result (λ bytes. bytes ≡ document_text (written form level_limit touches.now)) }
 {
