@@ -1,5 +1,6 @@
 pub mod Ids
 pub mod OneField
+pub mod FieldAlone
 pub mod States
 pub mod Made
 pub mod Calls

@@ -32,7 +32,7 @@ use Rattle.replay.specs.Splicing.{SetsField, IsThere, IsPut, IsPlayed}
 use Rattle.replay.proofs.Ids.{put_object}
 use Rattle.coll_state.proofs.Shortness.{at_most}
 
-set_here : (f : Form) (k : List ℕ) (v : Value) (d : Document) → set_last f (name k) v (Object d) ≡ Object (put_field k v d)
+pub set_here : (f : Form) (k : List ℕ) (v : Value) (d : Document) → set_last f (name k) v (Object d) ≡ Object (put_field k v d)
 set_here V1 k v d = rw (shape-object d) (put_object d k v)
 set_here V2 k v d = rw (shape-object d) (put_object d k v)
 
@@ -96,16 +96,21 @@ is_shown o p v e is = go p (sym (ap (option_map shown_in) is) ∙ e) where
 
 -- ---- the document that is put
 
+pub if_some : {A E : Type 0} (P Q : A → Type 0) → ((x : A) → P x → Q x) → (r : Result (Option A) E) → IfOk r (λ o. IfSome o P) → IfOk r (λ o. IfSome o Q)
+if_some P Q f (Ok (Some x)) p = f x p
+if_some P Q f (Ok None) p = tt
+if_some P Q f (Err e) p = tt
+
 module _ (n : NsName) (v : Value) (s : Rows) where
   pub put_there : {E : Type 0} (k : List ℕ) (a : Value) (d : Document) (r : Result (Option DocumentBytes) E) → IsThere n v s d → IfOk r (λ o. IfSome o (λ b. kept_document b ≡ put_field k a d)) → IfOk r (λ o. IfSome o (λ b. IsPut n v k a s (kept_document b)))
-  put_there k a d (Ok (Some b)) there is = (d, there, is)
-  put_there k a d (Ok None) there is = tt
-  put_there k a d (Err e) there is = tt
+  put_there k a d r there is = if_some (λ b. kept_document b ≡ put_field k a d) (λ b. IsPut n v k a s (kept_document b)) (λ b e. (d, there, e)) r is
 
-  one_played : (k : List ℕ) (a : Value) (ts : List Touch) (e : Document) → (p : Played) × (map touch_of ts ≡ p ∷ []) × SetsField k a p → IsPut n v k a s e → IsPlayed n v ts s e
-  one_played k a ts e t is = (is.0, is.1, λ f. ap (λ (z : Document). Object z) is.2 ∙ t.2 f is.0 ∙ sym (ap (λ (us : List Played). played_all f us (Object is.0)) t.1))
+  one_played : (f : Form) (k : List ℕ) (a : Value) (ts : List Touch) (e : Document) → (p : Played) × (map touch_of ts ≡ p ∷ []) × SetsField k a p → IsPut n v k a s e → IsPlayed n v f ts s e
+  one_played f k a ts e t is = (is.0, is.1, ap (λ (z : Document). Object z) is.2 ∙ t.2 f is.0 ∙ sym (ap (λ (us : List Played). played_all f us (Object is.0)) t.1))
 
-  pub put_played : {E : Type 0} (k : List ℕ) (a : Value) (ts : List Touch) (r : Result (Option DocumentBytes) E) → (p : Played) × (map touch_of ts ≡ p ∷ []) × SetsField k a p → IfOk r (λ o. IfSome o (λ b. IsPut n v k a s (kept_document b))) → IfOk r (λ o. IfSome o (λ b. IsPlayed n v ts s (kept_document b)))
-  put_played k a ts (Ok (Some b)) t is = one_played k a ts (kept_document b) t is
-  put_played k a ts (Ok None) t is = tt
-  put_played k a ts (Err e) t is = tt
+  pub put_played : {E : Type 0} (f : Form) (k : List ℕ) (a : Value) (ts : List Touch) (r : Result (Option DocumentBytes) E) → (p : Played) × (map touch_of ts ≡ p ∷ []) × SetsField k a p → IfOk r (λ o. IfSome o (λ b. IsPut n v k a s (kept_document b))) → IfOk r (λ o. IfSome o (λ b. IsPlayed n v f ts s (kept_document b)))
+  put_played f k a ts r t is = if_some (λ b. IsPut n v k a s (kept_document b)) (λ b. IsPlayed n v f ts s (kept_document b)) (λ b. one_played f k a ts (kept_document b) t) r is
+
+  -- the touches are played on the document that is there
+  pub there_played : {E : Type 0} (f : Form) (ts : List Touch) (d : Document) (r : Result (Option DocumentBytes) E) → IsThere n v s d → IfOk r (λ o. IfSome o (λ b. Object (kept_document b) ≡ played_all f (map touch_of ts) (Object d))) → IfOk r (λ o. IfSome o (λ b. IsPlayed n v f ts s (kept_document b)))
+  there_played f ts d r there is = if_some (λ b. Object (kept_document b) ≡ played_all f (map touch_of ts) (Object d)) (λ b. IsPlayed n v f ts s (kept_document b)) (λ b e. (d, there, e)) r is

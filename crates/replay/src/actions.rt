@@ -102,7 +102,7 @@ fn play_touches(
     ensures err { OnErr result (state.new ≡ state.old) }
     ensures count { state.new.count ≤ state.old.count + 1 }
 {
-    match spliced(alloc, state, ns, id, touches)? {
+    match spliced(alloc, state, ns, id, form, touches)? {
         Some(bytes) => state.put_bytes(alloc, ns, bytes),
         None => play_built(alloc, state, ns, id, form, touches),
     }

@@ -4,6 +4,7 @@
 mod actions;
 mod counting;
 mod fault;
+mod fields;
 mod indexes;
 mod laws;
 mod playing;

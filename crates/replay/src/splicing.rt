@@ -1,70 +1,24 @@
 //! Touches that are played in the bytes of a document.
-ghost use Rattle.std.specs.Prelude.{◌≡◌, [], ◌∷◌, map, IfOk, IfSome, IsTrue, false};
-ghost use Rattle.std.specs.Str.{bytes_eq};
+ghost use Rattle.std.specs.Prelude.{◌≡◌, ◌≤◌, map, IfOk, IfSome, IsTrue};
+ghost use Rattle.std.specs.List.{list_all};
+ghost use Rattle.bson_value.specs.declared.value.Value.{Object};
+ghost use Rattle.bson_value.specs.Levels.{levels_of};
 ghost use Rattle.bson_encode.specs.Key.{key_of};
 ghost use Rattle.bson_view.specs.Kept.{kept_document};
 ghost use Rattle.bson_view.specs.Views.{document, elem_value};
-ghost use Rattle.doc_path.specs.declared.parts.Part.TheVariants.{Name};
-ghost use Rattle.doc_path.specs.Played.{id_name, touch_of};
-ghost use Rattle.doc_path.specs.Touch.{Touch as Played};
+ghost use Rattle.doc_path.specs.Played.{played_all, touch_of};
 ghost use Rattle.coll_state.specs.Rows.{id_of, key_in};
-ghost use Rattle.replay.specs.Splicing.{SetsField, IsPut, IsPlayed};
+ghost use Rattle.replay.specs.Splicing.{IsThere, IsPut, IsPlayed, IsPlayedAlone, stays_within};
 
+use crate::fields::{common_field, only_field};
 use bson_encode::cmp_key;
-use bson_value::{CText, List, NsName, Value, type_byte};
+use bson_value::{CText, Doc, List, NsName, Value, type_byte};
 use bson_view::{DocumentBytes, Elem, Held, View};
 use coll_state::State;
-use doc_path::{Part, Place, Touch};
+use delta_apply::play;
+use doc_path::{Form, Touch};
 use spliced_documents::with_field;
 use std::alloc::{AllocError, Global};
-
-// The name that a part is, but for `_id`.
-fn other_name(part: &Part) -> Option<&CText>
-    ensures { IfSome result (λ n. (part.now ≡ Name n.now) × (bytes_eq n.now id_name ≡ false)) }
-{
-    match part {
-        Part::Name(name) => {
-            if name.as_str() == "_id" {
-                None
-            } else {
-                Some(name)
-            }
-        }
-        Part::Index(_) => None,
-    }
-}
-
-// The name that a place is, but for `_id`.
-fn field_name(place: &Place) -> Option<&CText>
-    ensures { IfSome result (λ n. (place.now ≡ Name n.now ∷ []) × (bytes_eq n.now id_name ≡ false)) }
-{
-    match place.parts().as_slice() {
-        [part] => other_name(part),
-        _ => None,
-    }
-}
-
-// The name and the value of a touch that sets a field of the document itself, but for the `_id`.
-fn field_of(touch: &Touch) -> Option<(&CText, &Value)>
-    ensures { IfSome result (λ f. SetsField f.0.now f.1.now (touch_of touch.now)) }
-{
-    match touch {
-        Touch::Set { place, value, .. } => match field_name(place) {
-            Some(name) => Some((name, value)),
-            None => None,
-        },
-        Touch::Unset { .. } | Touch::Resize { .. } => None,
-    }
-}
-
-fn only_field(touches: &[Touch]) -> Option<(&CText, &Value)>
-    ensures { IfSome result (λ f. (t : Played) × (map touch_of touches.now ≡ t ∷ []) × SetsField f.0.now f.1.now t) }
-{
-    match touches {
-        [touch] => field_of(touch),
-        _ => None,
-    }
-}
 
 // Whether an element is this `_id`. One that holds other values isn't compared.
 fn is_id(own: &Elem<'_>, id: &Value) -> bool
@@ -86,6 +40,17 @@ fn has_id(view: &View<'_>, id: &Value) -> bool
     }
 }
 
+/// The document of this `_id`, where it is kept as its spelling.
+fn own_view<'s>(state: &'s State, ns: &NsName, id: &Value) -> Option<View<'s>>
+    ensures there { IfSome result (λ v. IsThere ns.now id.now state.now (document v)) }
+    ensures levels { IfSome result (λ v. levels_of (document v) ≤ 100) }
+{
+    let Held::Spelled(view) = state.get(ns, id)? else {
+        return None;
+    };
+    if has_id(&view, id) { Some(view) } else { None }
+}
+
 /// The document with the field, in the bytes of the one that is there. `None` where it isn't kept as its
 /// spelling, or is too large then.
 fn put_field(
@@ -98,31 +63,86 @@ fn put_field(
 ) -> Result<Option<DocumentBytes>, AllocError>
     ensures { IfOk result (λ o. IfSome o (λ b. IsPut ns.now id.now name.now value.now state.now (kept_document b))) }
 {
-    let Some(held) = state.get(ns, id) else {
-        return Ok(None);
-    };
-    let Held::Spelled(view) = held else {
-        return Ok(None);
-    };
-    if !has_id(&view, id) {
-        return Ok(None);
+    match own_view(state, ns, id) {
+        Some(view) => with_field(alloc, &view, name, value),
+        None => Ok(None),
     }
-    with_field(alloc, &view, name, value)
 }
 
-/// The document after the touches, where they are one that sets a field of it, and it is kept as its spelling
-/// before and within the limits after it. No document is built for that but one of the field alone.
+/// What stands in the field after the touches, played on a document of this field alone.
+fn played_alone(
+    alloc: Global,
+    name: &CText,
+    value: Value,
+    form: Form,
+    touches: &List<Touch>,
+) -> Result<Option<Value>, AllocError>
+    ensures { IfOk result (λ o. IsPlayedAlone form touches.now name.now value o) }
+{
+    let own = name.copy(alloc)?;
+    let mut alone = Doc::new(alloc);
+    alone.set(own, value)?;
+    play(&mut alone, touches, form)?;
+    Ok(alone.remove(name.as_str()))
+}
+
+/// The document after touches that stay within the field. The value of no other field is read.
+fn play_field(
+    alloc: Global,
+    view: &View<'_>,
+    name: &CText,
+    form: Form,
+    touches: &List<Touch>,
+) -> Result<Option<DocumentBytes>, AllocError>
+    requires levels { levels_of (document view.now) ≤ 100 }
+    requires within { IsTrue (list_all (stays_within name.now) touches.now) }
+    ensures { IfOk result (λ o. IfSome o (λ b. Object (kept_document b) ≡ played_all form (map touch_of touches.now) (Object (document view.now)))) }
+{
+    let Some(elem) = view.field(name.as_str()) else {
+        return Ok(None);
+    };
+    let value = elem.to_value(alloc)?;
+    match played_alone(alloc, name, value, form, touches)? {
+        Some(value) => with_field(alloc, view, name, &value),
+        None => Ok(None),
+    }
+}
+
+/// The document after the touches, where all of them stay within one field that it has.
+fn play_within(
+    alloc: Global,
+    state: &State,
+    ns: &NsName,
+    id: &Value,
+    form: Form,
+    touches: &List<Touch>,
+) -> Result<Option<DocumentBytes>, AllocError>
+    ensures { IfOk result (λ o. IfSome o (λ b. IsPlayed ns.now id.now form touches.now state.now (kept_document b))) }
+{
+    let Some(name) = common_field(touches.as_slice()) else {
+        return Ok(None);
+    };
+    match own_view(state, ns, id) {
+        Some(view) => play_field(alloc, &view, name, form, touches),
+        None => Ok(None),
+    }
+}
+
+/// The document after the touches, where they are one that sets a field of it, or all stay within one field
+/// that it has, and it is kept as its spelling before and within the limits after it. Of the document that
+/// field alone is built.
 pub(crate) fn spliced(
     alloc: Global,
     state: &State,
     ns: &NsName,
     id: &Value,
+    form: Form,
     touches: &List<Touch>,
 ) -> Result<Option<DocumentBytes>, AllocError>
-    ensures { IfOk result (λ o. IfSome o (λ b. IsPlayed ns.now id.now touches.now state.now (kept_document b))) }
+    ensures { IfOk result (λ o. IfSome o (λ b. IsPlayed ns.now id.now form touches.now state.now (kept_document b))) }
 {
     match only_field(touches.as_slice()) {
         Some((name, value)) => put_field(alloc, state, ns, id, name, value),
-        None => Ok(None),
+        None => play_within(alloc, state, ns, id, form, touches),
     }
 }
