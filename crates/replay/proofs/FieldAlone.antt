@@ -1,10 +1,10 @@
 -- Touches that stay within a field make of its value the same in any document that has it as where it is alone.
-use Rattle.std.proofs.Common.{◌≡◌, ℕ, Bool, true, false, List, [], ◌∷◌, ◌++◌, map, refl, sym, ap, subst, ◌∙◌, Option, Some, None, inl, inr}
-use Rattle.std.specs.Prelude.{◌&&◌, IfOk, IfSome, Result}
+use Rattle.std.proofs.Common.{◌≡◌, ℕ, true, false, List, [], ◌∷◌, ◌++◌, map, refl, sym, ap, subst, ◌∙◌, Option, Some, None, inl, inr}
+use Rattle.std.specs.Prelude.{IfOk, IfSome, Result}
 use Rattle.std.specs.List.{list_all}
 use Rattle.std.specs.Str.{bytes_eq}
 use Rattle.std.proofs.lemmas.Slice.Eq.{bytes_eq-Decides}
-use Rattle.std.proofs.lemmas.Bool.{cases_Bool}
+use Rattle.std.proofs.lemmas.Bool.{cases_Bool, and_parts}
 use Rattle.containers.specs.Entries.{lookup, put as put_field}
 use Rattle.containers.proofs.Entries.{lookup-put, put_same}
 use Rattle.bson_value.specs.declared.value.Value.{Value}
@@ -41,16 +41,12 @@ takes_field : (f : Form) (k : List ℕ) (d : Document) → takes f (name k) (sha
 takes_field V1 k d = rw (shape-object d) refl
 takes_field V2 k d = rw (shape-object d) refl
 
-both : (a b : Bool) → a && b ≡ true → (a ≡ true) × (b ≡ true)
-both true b e = (refl, e)
-both false b e = absurd cc
-
 module _ (k : List ℕ) where
   -- what is done to a document that has the field is done to the field's value
-  abbrev pub DoesWithin : (Value → Value) → (Value → Value) → Type 0
+  abbrev DoesWithin : (Value → Value) → (Value → Value) → Type 0
   DoesWithin h g = (d : Document) (x : Value) → lookup k d ≡ Some x → g (Object d) ≡ Object (put_field k (h x) d)
 
-  abbrev pub StaysWithin : (Value → Value) → Type 0
+  abbrev StaysWithin : (Value → Value) → Type 0
   StaysWithin g = (h : Value → Value) × DoesWithin h g
 
   nothing : StaysWithin (λ v. v)
@@ -93,8 +89,8 @@ module _ (k : List ℕ) where
     one_touch (Sets (name n ∷ ps) a fresh) e = named n (λ z. played f (touch_at (name z ∷ ps) (Put a))) e (or_left (touch_at (name k ∷ ps) (Put a)) (put_there ps a))
     one_touch (Unsets []) e = absurd cc
     one_touch (Unsets (index i ∷ ps)) e = absurd cc
-    one_touch (Unsets (name n ∷ [])) e = absurd (let b = both (bytes_eq n k) false e in cc)
-    one_touch (Unsets (name n ∷ (q ∷ qs))) e = named n (λ z. played f (touch_at (name z ∷ (q ∷ qs)) Delete)) (both (bytes_eq n k) _ e).0 (or_left (touch_at (name k ∷ (q ∷ qs)) Delete) (deleted_below q qs))
+    one_touch (Unsets (name n ∷ [])) e = absurd (let b = and_parts (bytes_eq n k) false e in cc)
+    one_touch (Unsets (name n ∷ (q ∷ qs))) e = named n (λ z. played f (touch_at (name z ∷ (q ∷ qs)) Delete)) (and_parts (bytes_eq n k) _ e).0 (or_left (touch_at (name k ∷ (q ∷ qs)) Delete) (deleted_below q qs))
     one_touch (Resizes [] n) e = absurd cc
     one_touch (Resizes (index i ∷ ps) n) e = absurd cc
     one_touch (Resizes (name j ∷ ps) n) e = named j (λ z. played f (touch_at (name z ∷ ps) (Length n))) e (or_left (touch_at (name k ∷ ps) (Length n)) (sized_there ps n))
@@ -102,11 +98,11 @@ module _ (k : List ℕ) where
     all_touches : (ts : List Touch) → list_all (stays_within k) ts ≡ true → StaysWithin (played_all f (map touch_of ts))
     all_touches [] e = nothing
     all_touches (t ∷ ts) e =
-        let b = both (stays_within k t) (list_all (stays_within k) ts) e in
+        let b = and_parts (stays_within k t) (list_all (stays_within k) ts) e in
         one_more (played f (touch_of t)) (played_all f (map touch_of ts)) (one_touch t b.0) (all_touches ts b.1)
 
     -- what they make of the field alone stands in the document
-    pub played_within : (ts : List Touch) (d e : Document) (x y : Value) → list_all (stays_within k) ts ≡ true → lookup k d ≡ Some x → Object e ≡ played_all f (map touch_of ts) (Object ((k, x) ∷ [])) → Some y ≡ lookup k e →
+    played_within : (ts : List Touch) (d e : Document) (x y : Value) → list_all (stays_within k) ts ≡ true → lookup k d ≡ Some x → Object e ≡ played_all f (map touch_of ts) (Object ((k, x) ∷ [])) → Some y ≡ lookup k e →
         Object (put_field k y d) ≡ played_all f (map touch_of ts) (Object d)
     played_within ts d e x y stays has is there =
         let w = all_touches ts stays in

@@ -50,8 +50,9 @@ fn play_all(alloc: Global, state: &mut State, entries: &[Entry]) -> Result<(), A
 /// is done. An entry of the database `config` does nothing and is never refused. Where memory runs out
 /// within a group or several definitions, those before the refused one are in place.
 ///
-/// A delta that sets one field copies the bytes of its document, where that is kept as its spelling. Any
-/// other one decodes and encodes its document once. A put copies its document.
+/// A delta that sets one field copies the bytes of its document, where that is kept as its spelling. One
+/// whose touches all lie within a field that is there, and don't take it out, decodes and encodes that field
+/// alone. Any other one decodes and encodes its document once. A put copies its document.
 pub fn replay(alloc: Global, state: &mut State, entry: &Entry) -> Result<(), ReplayFault>
     requires { state.old.count + item_count entry.now < 2 ^ 127 }
     ensures answer { Answers result (first_refused entry.now) }
