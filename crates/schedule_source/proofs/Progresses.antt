@@ -1,10 +1,7 @@
--- What one line makes of how far the commands were run.
-use Rattle.std.proofs.Common.{◌≡◌, ℕ, List, [], ◌∷◌, ◌++◌, Bool, true, false, refl, sym, ap, ◌∙◌, subst, append_assoc, append-nil, Option, Result, Ok, Err}
+-- What the lines of a schedule make one after the other is what its source is.
+use Rattle.std.proofs.Common.{◌≡◌, ℕ, List, [], ◌∷◌, ◌++◌, map as each, Bool, true, false, refl, sym, ap, ◌∙◌, subst, append_assoc, append-nil, Option, Result, Ok, Err}
 use Rattle.std.specs.FinMap as map
-use Rattle.std.specs.Io.KnownBytes.{Appends}
-use Rattle.std.proofs.lemmas.Grind.{flat_map-append}
-use Rattle.tool_io.specs.Causes.{AppendsFront}
-use Rattle.tool_io.proofs.Writes.{appends_none, appends_two, front_none, front_first, front_next}
+use Rattle.std.proofs.lemmas.List.{map-append}
 use Rattle.bson_value.specs.declared.value.Ts.{Ts}
 use Rattle.coll_state.specs.Rows.{state_of}
 use Rattle.state_model.specs.States.{State}
@@ -12,172 +9,194 @@ use Rattle.schedule_model.specs.declared.command.Command.{Command}
 use Rattle.schedule_model.specs.declared.line.Line.{Line}
 use Rattle.schedule_model.specs.declared.line.Line.TheVariants.{Cmd, Dump, Copy, Mark, Tail}
 use Rattle.schedule_model.specs.declared.refused.Refused.{Refused}
-use Rattle.history_model.specs.Stages.{Stage, Made, changed_by}
+use Rattle.history_model.specs.Stages.{Caps, Stage, Made, changed_by}
 use Rattle.history_model.specs.Commands.{applied}
 use Rattle.history_model.specs.Runs.{Schedule, Refusal, NotTaken, first_stage}
-use Rattle.history_model.specs.Histories.{history_of, state, state_from, all_before, Source, source, source_from, source_by, stage_or, or_stop, after_made, after_refusal}
+use Rattle.history_model.specs.Histories.{all_before, before, history_of, state, state_from, source, source_from, source_by, stage_or}
 use Rattle.history_model.proofs.Inductive.{empty_state}
-use Rattle.schedule_report.specs.Lines.{refusal_line, refusals_text}
-use Rattle.store_core.specs.declared.fault.StoreFault.{StoreFault}
 use Rattle.store_core.specs.declared.fault.StoreFault.TheVariants as faults
 use Rattle.store_core.specs.Stores.{Stored, StandsAt}
+use Rattle.schedule_source.specs.declared.run.RefusedLine.{RefusedLine}
+use Rattle.schedule_source.specs.declared.run.SourceRun.{SourceRun}
 use Rattle.schedule_source.specs.Commands.{RunsBefore, made_before}
-use Rattle.schedule_source.specs.Progress.{Running, Ended, GoesOn, Ran, Stops}
+use Rattle.schedule_source.specs.Progress.{Progress, at_first, with_made, behind_command, behind_line, behind_lines, refusal_in, Advances, Reached, RunsTo, Makes, Reaches}
+
+-- ---- the source from a line on
+
+-- what lines make and refuse behind a progress
+pub record Leaves (l : Option Ts) (ls : List (ℕ × Line)) (p : Progress) (made : List Made) (refused : List (ℕ × Refusal)) : Type 0 where
+  pub makes : (behind_lines l ls p).made ≡ p.made ++ made
+  pub refuses : (behind_lines l ls p).refused ≡ p.refused ++ refused
+
+stands_still : (l : Option Ts) (x : ℕ × Line) (p : Progress) → p.goes ≡ false → behind_line l x p ≡ p
+unfolding behind_line
+stands_still l (i, Cmd c) p g = rw g refl
+stands_still l (i, Dump) p g = refl
+stands_still l (i, Copy n k) p g = refl
+stands_still l (i, Mark) p g = refl
+stands_still l (i, Tail k) p g = refl
+
+stopped : (l : Option Ts) (ls : List (ℕ × Line)) (p : Progress) → p.goes ≡ false → behind_lines l ls p ≡ p
+stopped l [] p g = refl
+stopped l (x ∷ xs) p g = ap (behind_lines l xs) (stands_still l x p g) ∙ stopped l xs p g
+
+pub line_is : (l : Option Ts) (i : ℕ) (c : Command) (p : Progress) → p.goes ≡ true → behind_line l (i, Cmd c) p ≡ behind_command l i (applied c p.stage) p
+unfolding behind_line
+line_is l i c p g = rw g refl
+
+nothing_left : (l : Option Ts) (ls : List (ℕ × Line)) (p : Progress) → p.goes ≡ false → Leaves l ls p [] []
+nothing_left l ls p g =
+    record {
+      makes = ap (λ (q : Progress). q.made) (stopped l ls p g) ∙ sym (append-nil p.made);
+      refuses = ap (λ (q : Progress). q.refused) (stopped l ls p g) ∙ sym (append-nil p.refused);
+    }
+
+module _ (l : Option Ts) (i : ℕ) (ls : List (ℕ × Line)) (p : Progress) (g : p.goes ≡ true) (more : (q : Progress) → q.goes ≡ true → Leaves l ls q (source_from l ls q.stage).made (source_from l ls q.stage).refused) where
+  abbrev Behind : Result (Stage × List Made) Refused → Type 0
+  Behind r =
+      let q = behind_command l i r p in
+      let s = source_by l i r (source_from l ls (stage_or p.stage r)) in
+      ((behind_lines l ls q).made ≡ p.made ++ s.made) × ((behind_lines l ls q).refused ≡ p.refused ++ s.refused)
+
+  made_left : (b : Bool) (st : Stage) (ms : List Made) → all_before l ms ≡ b → Behind (Ok (st, ms))
+  made_left true st ms e =
+      let q = with_made true l st ms p in
+      let s = source_from l ls st in
+      let m = more q g in
+      rw e (m.makes ∙ append_assoc p.made ms s.made, m.refuses)
+  made_left false st ms e =
+      let q = with_made false l st ms p in
+      let m = nothing_left l ls q refl in
+      rw e (m.makes ∙ append-nil (p.made ++ made_before l ms), m.refuses)
+
+  command_left : (r : Result (Stage × List Made) Refused) → Behind r
+  command_left (Ok x) = made_left (all_before l x.1) x.0 x.1 refl
+  command_left (Err x) =
+      let q = behind_command l i (Err x) p in
+      let s = source_from l ls p.stage in
+      let m = more q g in
+      (m.makes, m.refuses ∙ append_assoc p.refused ((i, NotTaken x) ∷ []) s.refused)
+
+pub lines_leave : (l : Option Ts) (ls : List (ℕ × Line)) (p : Progress) → p.goes ≡ true → Leaves l ls p (source_from l ls p.stage).made (source_from l ls p.stage).refused
+unfolding behind_line
+lines_leave l [] p g = record { makes = sym (append-nil p.made); refuses = sym (append-nil p.refused) }
+lines_leave l ((i, Cmd c) ∷ ls) p g =
+    let step = ap (behind_lines l ls) (line_is l i c p g) in
+    let b = command_left l i ls p g (lines_leave l ls) (applied c p.stage) in
+    record { makes = ap (λ (q : Progress). q.made) step ∙ b.0; refuses = ap (λ (q : Progress). q.refused) step ∙ b.1 }
+lines_leave l ((i, Dump) ∷ ls) p g = let m = lines_leave l ls p g in record { makes = m.makes; refuses = m.refuses }
+lines_leave l ((i, Copy n k) ∷ ls) p g = let m = lines_leave l ls p g in record { makes = m.makes; refuses = m.refuses }
+lines_leave l ((i, Mark) ∷ ls) p g = let m = lines_leave l ls p g in record { makes = m.makes; refuses = m.refuses }
+lines_leave l ((i, Tail k) ∷ ls) p g = let m = lines_leave l ls p g in record { makes = m.makes; refuses = m.refuses }
+
+-- all lines were run
+pub makes_all : (l : Option Ts) (s : Schedule) (r : SourceRun) → ((k : Option Ts) (t : Schedule) → state (history_of (source k t).made) ≡ before t k) → RunsTo r (behind_lines l s.lines (at_first s.caps)) → Makes l s r
+unfolding RunsTo
+makes_all l s r law t =
+    let m = lines_leave l s.lines (at_first s.caps) refl in
+    record {
+      makes = t.makes ∙ (ap (λ (ms : List Made). state (history_of ms)) m.makes ∙ law l s);
+      refuses = t.refuses ∙ m.refuses;
+    }
+
+-- one more line
+pub behind_more : (l : Option Ts) (xs : List (ℕ × Line)) (x : ℕ × Line) (p : Progress) → behind_lines l (xs ++ x ∷ []) p ≡ behind_line l x (behind_lines l xs p)
+behind_more l [] x p = refl
+behind_more l (y ∷ ys) x p = behind_more l ys x (behind_line l y p)
+
+-- ---- one line
 
 state_append : (s : State) (xs ys : List Made) → state_from s (history_of (xs ++ ys)) ≡ state_from (state_from s (history_of xs)) (history_of ys)
 state_append s [] ys = refl
 state_append s (m ∷ ms) ys = state_append (changed_by m.write s) ms ys
 
--- the source from a command on, by what the command makes
-whole_step : (l : Option Ts) (i : ℕ) (c : Command) (st after : Stage) (ms : List Made) (rest : List (ℕ × Line)) → applied c st ≡ Ok (after, ms) → all_before l ms ≡ true → source_from l ((i, Cmd c) ∷ rest) st ≡ after_made ms (source_from l rest after)
-whole_step l i c st after ms rest e f =
-    ap (λ (x : Result (Stage × List Made) Refused). source_by l i x (source_from l rest (stage_or st x))) e ∙ ap (λ (b : Bool). or_stop b l ms (source_from l rest after)) f
+pub starts : (c : Caps) (r : SourceRun) → StandsAt r.store (first_stage c) → each refusal_in r.refused ≡ [] → r.goes_on ≡ true → RunsTo r (at_first c)
+unfolding RunsTo
+starts c r at none goes =
+    record { goes = goes; refuses = none; makes = ap state_of at.rows ∙ empty_state; stands = λ _. at }
 
-part_step : (l : Option Ts) (i : ℕ) (c : Command) (st after : Stage) (ms : List Made) (rest : List (ℕ × Line)) → applied c st ≡ Ok (after, ms) → all_before l ms ≡ false → source_from l ((i, Cmd c) ∷ rest) st ≡ record { made = made_before l ms; refused = [] }
-part_step l i c st after ms rest e f =
-    ap (λ (x : Result (Stage × List Made) Refused). source_by l i x (source_from l rest (stage_or st x))) e ∙ ap (λ (b : Bool). or_stop b l ms (source_from l rest after)) f
+module _ (l : Option Ts) (i : ℕ) (c : Command) (old : SourceRun) (store : Stored) (p : Progress) (goes : old.goes_on ≡ true) (t : Reached old p) where
+  abbrev at : StandsAt old.store p.stage
+  at = t.stands (sym t.goes ∙ goes)
 
-refused_step : (l : Option Ts) (i : ℕ) (c : Command) (st : Stage) (row : Refused) (rest : List (ℕ × Line)) → applied c st ≡ Err row → source_from l ((i, Cmd c) ∷ rest) st ≡ after_refusal i row (source_from l rest st)
-refused_step l i c st row rest e = ap (λ (x : Result (Stage × List Made) Refused). source_by l i x (source_from l rest (stage_or st x))) e
+  adds : (ms : List Made) → state_of store.rows ≡ state_from (state_of old.store.rows) (history_of ms) → state_of store.rows ≡ state (history_of (p.made ++ ms))
+  adds ms e = e ∙ (ap (λ (x : State). state_from x (history_of ms)) t.makes ∙ sym (state_append map.empty p.made ms))
 
--- a command that was run
-pub ran_on : (l : Option Ts) (s : Schedule) (old new : Stored) (i : ℕ) (c : Command) (b : Option (List ℕ)) (whole : Bool) → ((st : Stage) → StandsAt old st → RunsBefore l c st old (Ok whole) new) → (rest : List (ℕ × Line)) (told : List (ℕ × Refusal)) → Running l s old ((i, Cmd c) ∷ rest) told → Ran l s new rest told b b whole
-ran_on l s old new i c b true f rest told r =
-    (let w = f r.stage r.stands in
-    let ms = w.would.made in
-    let step = whole_step l i c r.stage w.would.after ms rest w.would.accepted w.earlier in
-    let from_there : List (ℕ × Refusal) = (source_from l rest w.would.after).refused in
-    record {
-      now = [];
-      running = record {
-        stage = w.would.after;
-        stands = w.stands;
-        made = r.made ++ ms;
-        state_is = w.makes ∙ (ap (λ (x : State). state_from x (history_of ms)) r.state_is ∙ sym (state_append map.empty r.made ms));
-        makes = r.makes ∙ (ap (λ (x : Source). r.made ++ x.made) step ∙ sym (append_assoc r.made ms (source_from l rest w.would.after).made));
-        refuses = r.refuses ∙ (ap (λ (x : Source). told ++ x.refused) step ∙ ap (λ (t : List (ℕ × Refusal)). t ++ from_there) (sym (append-nil told)));
-      };
-      writes = appends_none b;
-    })
-ran_on l s old new i c b false f rest told r =
-    (let w = f r.stage r.stands in
-    let ms = w.would.made in
-    let step = part_step l i c r.stage w.would.after ms rest w.would.accepted w.later in (
-      record {
-        state_is = w.makes ∙ (ap (λ (x : State). state_from x (history_of (made_before l ms))) r.state_is ∙ (sym (state_append map.empty r.made (made_before l ms)) ∙ ap (λ (xs : List Made). state (history_of xs)) (sym (r.makes ∙ ap (λ (x : Source). r.made ++ x.made) step))));
-        refuses = r.refuses ∙ (ap (λ (x : Source). told ++ x.refused) step ∙ append-nil told);
-      },
-      appends_none b,
-    ))
+  run_on : (b : Bool) → ((st : Stage) → StandsAt old.store st → RunsBefore l c st old.store (Ok b) store) → Reached (record { store = store; refused = old.refused; goes_on = b }) (behind_command l i (applied c p.stage) p)
+  run_on true f =
+      let w = f p.stage at in
+      let is : behind_command l i (applied c p.stage) p ≡ with_made true l w.would.after w.would.made p =
+      ap (λ (x : Result (Stage × List Made) Refused). behind_command l i x p) w.would.accepted ∙ ap (λ (b : Bool). with_made b l w.would.after w.would.made p) w.earlier in
+      subst (Reached (record { store = store; refused = old.refused; goes_on = true })) (sym is) (record {
+        goes = sym goes ∙ t.goes;
+        refuses = t.refuses;
+        makes = adds w.would.made w.makes;
+        stands = λ _. w.stands;
+      })
+  run_on false f =
+      let w = f p.stage at in
+      let is : behind_command l i (applied c p.stage) p ≡ with_made false l w.would.after w.would.made p =
+      ap (λ (x : Result (Stage × List Made) Refused). behind_command l i x p) w.would.accepted ∙ ap (λ (b : Bool). with_made b l w.would.after w.would.made p) w.later in
+      subst (Reached (record { store = store; refused = old.refused; goes_on = false })) (sym is) (record {
+        goes = refl;
+        refuses = t.refuses;
+        makes = adds (made_before l w.would.made) w.makes;
+        stands = λ e. absurd cc;
+      })
 
--- a command that is refused, and is told
-pub refused_on : (l : Option Ts) (s : Schedule) (old new : Stored) (i : ℕ) (c : Command) (a b : Option (List ℕ)) (fault : StoreFault) (row : Refused) → fault ≡ faults.Refused row → ((st : Stage) → StandsAt old st → RunsBefore l c st old (Err fault) new) → Appends a b (refusal_line (i, NotTaken row)) → (rest : List (ℕ × Line)) (told : List (ℕ × Refusal)) → Running l s old ((i, Cmd c) ∷ rest) told → Ran l s new rest told a b true
-refused_on l s old new i c a b fault row is f w rest told r =
-    (let e = subst (λ (x : StoreFault). RunsBefore l c r.stage old (Err x) new) is (f r.stage r.stands) in
-    let step = refused_step l i c r.stage row rest e.0 in
-    record {
-      now = (i, NotTaken row) ∷ [];
-      running = record {
-        stage = r.stage;
-        stands = subst (λ (x : Stored). StandsAt x r.stage) (sym e.1) r.stands;
-        made = r.made;
-        state_is = ap (λ (x : Stored). state_of x.rows) e.1 ∙ r.state_is;
-        makes = r.makes ∙ ap (λ (x : Source). r.made ++ x.made) step;
-        refuses = r.refuses ∙ (ap (λ (x : Source). told ++ x.refused) step ∙ sym (append_assoc told ((i, NotTaken row) ∷ []) (source_from l rest r.stage).refused));
-      };
-      writes = subst (λ (x : List ℕ). Appends a b x) (sym (append-nil (refusal_line (i, NotTaken row)))) w;
-    })
+  refused_on : (row : Refused) (refused : List RefusedLine) → ((st : Stage) → StandsAt old.store st → RunsBefore l c st old.store (Err (faults.Refused row)) store) → refused ≡ old.refused ++ (record { number = i; row = row } ∷ []) → Reached (record { store = store; refused = refused; goes_on = old.goes_on }) (behind_command l i (applied c p.stage) p)
+  refused_on row refused f more =
+      let e = f p.stage at in
+      let is : behind_command l i (applied c p.stage) p ≡ behind_command l i (Err row) p = ap (λ (x : Result (Stage × List Made) Refused). behind_command l i x p) e.0 in
+      subst (Reached (record { store = store; refused = refused; goes_on = old.goes_on })) (sym is) (record {
+        goes = t.goes;
+        refuses = ap (each refusal_in) more ∙ (map-append refusal_in old.refused (record { number = i; row = row } ∷ []) ∙ ap (λ (xs : List (ℕ × Refusal)). xs ++ (i, NotTaken row) ∷ []) t.refuses);
+        makes = ap (λ (x : Stored). state_of x.rows) e.1 ∙ t.makes;
+        stands = λ _. subst (λ (x : Stored). StandsAt x p.stage) (sym e.1) at;
+      })
 
--- the telling of it failed
-pub refused_stops : (l : Option Ts) (s : Schedule) (old new : Stored) (i : ℕ) (c : Command) (a b : Option (List ℕ)) (fault : StoreFault) (row : Refused) → fault ≡ faults.Refused row → ((st : Stage) → StandsAt old st → RunsBefore l c st old (Err fault) new) → AppendsFront a b (refusal_line (i, NotTaken row)) → (rest : List (ℕ × Line)) (told : List (ℕ × Refusal)) → Running l s old ((i, Cmd c) ∷ rest) told → Stops l s told a b
-refused_stops l s old new i c a b fault row is f w rest told r =
-    (let e = subst (λ (x : StoreFault). RunsBefore l c r.stage old (Err x) new) is (f r.stage r.stands) in
-    let later : List (ℕ × Refusal) = (source_from l rest r.stage).refused in
-    let line : List ℕ = refusal_line (i, NotTaken row) in
-    (line ++ refusals_text later, ap refusals_text (r.refuses ∙ ap (λ (x : Source). told ++ x.refused) (refused_step l i c r.stage row rest e.0)) ∙ flat_map-append refusal_line told ((i, NotTaken row) ∷ later), front_first a b line (refusals_text later) w))
+pub runs_command : (l : Option Ts) (i : ℕ) (c : Command) (old : SourceRun) (store : Stored) (p : Progress) → old.goes_on ≡ true → RunsTo old p → (b : Bool) → ((st : Stage) → StandsAt old.store st → RunsBefore l c st old.store (Ok b) store) → RunsTo (record { store = store; refused = old.refused; goes_on = b }) (behind_command l i (applied c p.stage) p)
+unfolding RunsTo
+runs_command l i c old store p goes t b f = run_on l i c old store p goes t b f
 
--- nothing was told
-pub nothing_told : (l : Option Ts) (s : Schedule) (old : Stored) (b : Option (List ℕ)) (lines : List (ℕ × Line)) (told : List (ℕ × Refusal)) → Running l s old lines told → Stops l s told b b
-nothing_told l s old b lines told r =
-    (let later : List (ℕ × Refusal) = (source_from l lines r.stage).refused in
-    (refusals_text later, ap refusals_text r.refuses ∙ flat_map-append refusal_line told later, front_none b (refusals_text later)))
+pub refuses_command : (l : Option Ts) (i : ℕ) (c : Command) (old : SourceRun) (store : Stored) (p : Progress) → old.goes_on ≡ true → RunsTo old p → (row : Refused) (refused : List RefusedLine) → ((st : Stage) → StandsAt old.store st → RunsBefore l c st old.store (Err (faults.Refused row)) store) → refused ≡ old.refused ++ (record { number = i; row = row } ∷ []) → RunsTo (record { store = store; refused = refused; goes_on = old.goes_on }) (behind_command l i (applied c p.stage) p)
+unfolding RunsTo
+refuses_command l i c old store p goes t row refused f more = refused_on l i c old store p goes t row refused f more
 
--- a line of the dump is passed over
-passes : (l : Option Ts) (i : ℕ) (ln : Line) (rest : List (ℕ × Line)) (st : Stage) → ((c : Command) → ln ≡ Cmd c → ⊥) → source_from l ((i, ln) ∷ rest) st ≡ source_from l rest st
-passes l i (Cmd c) rest st other = absurd (other c refl)
-passes l i Dump rest st other = refl
-passes l i (Copy n m) rest st other = refl
-passes l i Mark rest st other = refl
-passes l i (Tail m) rest st other = refl
+-- a line of the dump is passed over, and a command behind the limit
+pub passes : (l : Option Ts) (x : ℕ × Line) (p : Progress) → ((c : Command) → x.1 ≡ Cmd c → ⊥) → behind_line l x p ≡ p
+unfolding behind_line
+passes l (i, Cmd c) p other = absurd (other c refl)
+passes l (i, Dump) p other = refl
+passes l (i, Copy n k) p other = refl
+passes l (i, Mark) p other = refl
+passes l (i, Tail k) p other = refl
 
-pub passed_over : (l : Option Ts) (s : Schedule) (old : Stored) (i : ℕ) (ln : Line) (b : Option (List ℕ)) → ((c : Command) → ln ≡ Cmd c → ⊥) → (rest : List (ℕ × Line)) (told : List (ℕ × Refusal)) → Running l s old ((i, ln) ∷ rest) told → Ran l s old rest told b b true
-passed_over l s old i ln b other rest told r =
-    (let step = passes l i ln rest r.stage other in
-    record {
-      now = [];
-      running = record {
-        stage = r.stage;
-        stands = r.stands;
-        made = r.made;
-        state_is = r.state_is;
-        makes = r.makes ∙ ap (λ (x : Source). r.made ++ x.made) step;
-        refuses = r.refuses ∙ (ap (λ (x : Source). told ++ x.refused) step ∙ ap (λ (t : List (ℕ × Refusal)). t ++ (source_from l rest r.stage).refused) (sym (append-nil told)));
-      };
-      writes = appends_none b;
-    })
+pub passed_over : (l : Option Ts) (x : ℕ × Line) (r : SourceRun) (p : Progress) → ((c : Command) → x.1 ≡ Cmd c → ⊥) → RunsTo r p → RunsTo r (behind_line l x p)
+passed_over l x r p other t = subst (RunsTo r) (sym (passes l x p other)) t
 
--- ---- the lines in turn
+pub not_run : (l : Option Ts) (x : ℕ × Line) (r : SourceRun) (p : Progress) → r.goes_on ≡ false → RunsTo r p → RunsTo r (behind_line l x p)
+unfolding RunsTo
+not_run l x r p g t = subst (RunsTo r) (sym (stands_still l x p (sym t.goes ∙ g))) t
 
--- these lines are left, and what was refused before them is told
-pub record Advanced (l : Option Ts) (s : Schedule) (store : Stored) (left : List (ℕ × Line)) (a b : Option (List ℕ)) : Type 0 where
-  pub told : List (ℕ × Refusal)
-  pub running : Running l s store left told
-  pub writes : Appends a b (refusals_text told)
+pub was_run : (l : Option Ts) (i : ℕ) (c : Command) (old new : SourceRun) (p : Progress) → old.goes_on ≡ true → RunsTo old p → RunsTo new (behind_command l i (applied c p.stage) p) → RunsTo new (behind_line l (i, Cmd c) p)
+unfolding RunsTo
+was_run l i c old new p g t u = subst (RunsTo new) (sym (line_is l i c p (sym t.goes ∙ g))) u
 
-pub at_first : (l : Option Ts) (s : Schedule) (store : Stored) (a : Option (List ℕ)) → StandsAt store (first_stage s.caps) → Advanced l s store s.lines a a
-at_first l s store a at =
-    record {
-      told = [];
-      running = record {
-        stage = first_stage s.caps;
-        stands = at;
-        made = [];
-        state_is = ap state_of at.rows ∙ empty_state;
-        makes = refl;
-        refuses = refl;
-      };
-      writes = appends_none a;
-    }
+pub advances : (l : Option Ts) (x : ℕ × Line) (old new : SourceRun) → ((p : Progress) → RunsTo old p → RunsTo new (behind_line l x p)) → Advances l x old new
+unfolding Advances
+advances l x old new f = f
 
-pub went_on : (l : Option Ts) (s : Schedule) (old new : Stored) (line : ℕ × Line) (rest : List (ℕ × Line)) (a b c : Option (List ℕ)) → (w : Advanced l s old (line ∷ rest) a b) → GoesOn l s new rest w.told b c → Advanced l s new rest a c
-went_on l s old new line rest a b c w v =
-    record {
-      told = w.told ++ v.now;
-      running = v.running;
-      writes = subst (λ (x : List ℕ). Appends a c x) (sym (flat_map-append refusal_line w.told v.now)) (appends_two a b c (refusals_text w.told) (refusals_text v.now) w.writes v.writes);
-    }
+-- ---- the lines of a schedule in turn
 
--- the run ended, and all that was refused is told
-pub record Finished (l : Option Ts) (s : Schedule) (store : Stored) (a b : Option (List ℕ)) : Type 0 where
-  pub state_is : state_of store.rows ≡ state (history_of (source l s).made)
-  pub writes : Appends a b (refusals_text (source l s).refused)
+pub reaches_first : (l : Option Ts) (s : Schedule) (r : SourceRun) (left : List (ℕ × Line)) → left ≡ s.lines → RunsTo r (at_first s.caps) → Reaches l s r left
+unfolding Reaches
+reaches_first l s r left e t = (at_first s.caps, t, ap (λ (xs : List (ℕ × Line)). behind_lines l xs (at_first s.caps)) e)
 
-pub stopped_there : (l : Option Ts) (s : Schedule) (old new : Stored) (lines : List (ℕ × Line)) (a b c : Option (List ℕ)) → (w : Advanced l s old lines a b) → Ended l s new w.told × Appends b c [] → Finished l s new a c
-stopped_there l s old new lines a b c w v =
-    record {
-      state_is = v.0.state_is;
-      writes = subst (λ (x : List ℕ). Appends a c x) (append-nil (refusals_text w.told) ∙ ap refusals_text (sym v.0.refuses)) (appends_two a b c (refusals_text w.told) [] w.writes v.1);
-    }
+pub reaches_next : (l : Option Ts) (s : Schedule) (old new : SourceRun) (line : ℕ × Line) (left more : List (ℕ × Line)) → more ≡ line ∷ left → Advances l line old new → Reaches l s old more → Reaches l s new left
+unfolding Reaches Advances
+reaches_next l s old new line left more e f w = (behind_line l line w.0, f w.0 w.1, sym (ap (λ (xs : List (ℕ × Line)). behind_lines l xs w.0) e) ∙ w.2)
 
-pub all_run : (l : Option Ts) (s : Schedule) (store : Stored) (lines : List (ℕ × Line)) (a b : Option (List ℕ)) → lines ≡ [] → Advanced l s store lines a b → Finished l s store a b
-all_run l s store lines a b e w =
-    (let r = w.running in
-    let none : source_from l lines r.stage ≡ record { made = []; refused = [] } = ap (λ (x : List (ℕ × Line)). source_from l x r.stage) e in
-    record {
-      state_is = r.state_is ∙ ap (λ (xs : List Made). state (history_of xs)) (sym (r.makes ∙ (ap (λ (x : Source). r.made ++ x.made) none ∙ append-nil r.made)));
-      writes = subst (λ (x : List ℕ). Appends a b x) (ap refusals_text (sym (r.refuses ∙ (ap (λ (x : Source). w.told ++ x.refused) none ∙ append-nil w.told)))) w.writes;
-    })
-
--- an error: some front of it is told
-pub stops_told : (l : Option Ts) (s : Schedule) (store : Stored) (lines : List (ℕ × Line)) (a b c : Option (List ℕ)) → (w : Advanced l s store lines a b) → Stops l s w.told b c → AppendsFront a c (refusals_text (source l s).refused)
-stops_told l s store lines a b c w v = subst (λ (x : List ℕ). AppendsFront a c x) (sym v.1) (front_next a b c (refusals_text w.told) v.0 w.writes v.2)
+pub reaches_end : (l : Option Ts) (s : Schedule) (r : SourceRun) (left : List (ℕ × Line)) → left ≡ [] → ((k : Option Ts) (t : Schedule) → state (history_of (source k t).made) ≡ before t k) → Reaches l s r left → Makes l s r
+unfolding Reaches
+reaches_end l s r left e law w = makes_all l s r law (subst (RunsTo r) (sym (ap (λ (xs : List (ℕ × Line)). behind_lines l xs w.0) e) ∙ w.2) w.1)

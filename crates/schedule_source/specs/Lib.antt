@@ -1,2 +1,4 @@
 pub mod Commands
 pub mod Progress
+pub mod Reading
+pub mod Inputs

@@ -1,40 +1,69 @@
--- How far the commands of a schedule were run up to a limit.
-use Rattle.std.specs.Prelude.{◌≡◌, ℕ, List, [], ◌++◌, Bool, true, false, Option}
-use Rattle.std.specs.Io.KnownBytes.{Appends}
+-- How far the lines of a schedule were run up to a limit.
+use Rattle.std.specs.Prelude.{◌≡◌, ℕ, List, [], ◌∷◌, ◌++◌, map as each, Bool, true, false, Option, Result, Ok, Err, if◌then◌else◌}
 use Rattle.bson_value.specs.declared.value.Ts.{Ts}
-use Rattle.tool_io.specs.Causes.{AppendsFront}
 use Rattle.coll_state.specs.Rows.{state_of}
 use Rattle.schedule_model.specs.declared.line.Line.{Line}
-use Rattle.history_model.specs.Stages.{Stage, Made}
-use Rattle.history_model.specs.Runs.{Schedule, Refusal}
-use Rattle.history_model.specs.Histories.{history_of, state, source, source_from}
-use Rattle.schedule_report.specs.Lines.{refusals_text}
-use Rattle.store_core.specs.Stores.{Stored, StandsAt}
+use Rattle.schedule_model.specs.declared.line.Line.TheVariants.{Cmd}
+use Rattle.schedule_model.specs.declared.refused.Refused.{Refused}
+use Rattle.history_model.specs.Commands.{applied}
+use Rattle.history_model.specs.Stages.{Caps, Stage, Made}
+use Rattle.history_model.specs.Runs.{Schedule, Refusal, NotTaken, first_stage}
+use Rattle.history_model.specs.Histories.{all_before, before, history_of, source, state}
+use Rattle.store_core.specs.Stores.{StandsAt}
+use Rattle.schedule_source.specs.declared.run.RefusedLine.{RefusedLine}
+use Rattle.schedule_source.specs.declared.run.SourceRun.{SourceRun}
+use Rattle.schedule_source.specs.Commands.{made_before}
 
--- these lines are still to be run, and these were refused
-pub record Running (l : Option Ts) (s : Schedule) (store : Stored) (rest : List (ℕ × Line)) (told : List (ℕ × Refusal)) : Type 0 where
+-- what was made so far, and which lines were refused; it goes on where further commands are run
+pub record Progress : Type 0 where
+  pub goes : Bool
   pub stage : Stage
-  pub stands : StandsAt store stage
   pub made : List Made
-  pub state_is : state_of store.rows ≡ state (history_of made)
-  pub makes : (source l s).made ≡ made ++ (source_from l rest stage).made
-  pub refuses : (source l s).refused ≡ told ++ (source_from l rest stage).refused
+  pub refused : List (ℕ × Refusal)
 
--- all was run
-pub record Ended (l : Option Ts) (s : Schedule) (store : Stored) (told : List (ℕ × Refusal)) : Type 0 where
-  pub state_is : state_of store.rows ≡ state (history_of (source l s).made)
-  pub refuses : (source l s).refused ≡ told
+abbrev pub at_first : Caps → Progress
+at_first c = record { goes = true; stage = first_stage c; made = []; refused = [] }
 
--- one line was run: the next ones are still to be run, or none is; what was refused is told
-pub record GoesOn (l : Option Ts) (s : Schedule) (store : Stored) (rest : List (ℕ × Line)) (told : List (ℕ × Refusal)) (before after : Option (List ℕ)) : Type 0 where
-  pub now : List (ℕ × Refusal)
-  pub running : Running l s store rest (told ++ now)
-  pub writes : Appends before after (refusals_text now)
+-- a command was made whole, or as far as it is before the limit
+abbrev pub with_made : Bool → Option Ts → Stage → List Made → Progress → Progress
+with_made true l st ms p = record { goes = p.goes; stage = st; made = p.made ++ ms; refused = p.refused }
+with_made false l st ms p = record { goes = false; stage = p.stage; made = p.made ++ made_before l ms; refused = p.refused }
 
-abbrev pub Ran : Option Ts → Schedule → Stored → List (ℕ × Line) → List (ℕ × Refusal) → Option (List ℕ) → Option (List ℕ) → Bool → Type 0
-Ran l s store rest told before after true = GoesOn l s store rest told before after
-Ran l s store rest told before after false = Ended l s store told × Appends before after []
+abbrev pub behind_command : Option Ts → ℕ → Result (Stage × List Made) Refused → Progress → Progress
+behind_command l i (Ok x) p = with_made (all_before l x.1) l x.0 x.1 p
+behind_command l i (Err x) p = record { goes = p.goes; stage = p.stage; made = p.made; refused = p.refused ++ ((i, NotTaken x) ∷ []) }
 
--- behind an error some front of what is refused from there on was told
-abbrev pub Stops : Option Ts → Schedule → List (ℕ × Refusal) → Option (List ℕ) → Option (List ℕ) → Type 0
-Stops l s told before after = (more : List ℕ) × (refusals_text (source l s).refused ≡ refusals_text told ++ more) × AppendsFront before after more
+-- lines of the dump are passed over
+unfoldable pub behind_line : Option Ts → ℕ × Line → Progress → Progress
+behind_line l (i, Cmd c) p = if p.goes then behind_command l i (applied c p.stage) p else p
+behind_line l (i, _) p = p
+
+abbrev pub behind_lines : Option Ts → List (ℕ × Line) → Progress → Progress
+behind_lines l [] p = p
+behind_lines l (x ∷ xs) p = behind_lines l xs (behind_line l x p)
+
+abbrev pub refusal_in : RefusedLine → ℕ × Refusal
+refusal_in x = (x.number, NotTaken x.row)
+
+-- a run came so far
+pub record Reached (r : SourceRun) (p : Progress) : Type 0 where
+  pub goes : r.goes_on ≡ p.goes
+  pub refuses : each refusal_in r.refused ≡ p.refused
+  pub makes : state_of r.store.rows ≡ state (history_of p.made)
+  pub stands : p.goes ≡ true → StandsAt r.store p.stage
+
+unfoldable pub RunsTo : SourceRun → Progress → Type 0
+RunsTo r p = Reached r p
+
+-- a line more was run
+unfoldable pub Advances : Option Ts → ℕ × Line → SourceRun → SourceRun → Type 0
+Advances l line old new = (p : Progress) → RunsTo old p → RunsTo new (behind_line l line p)
+
+-- a run made and refused what the schedule makes and refuses up to the limit
+pub record Makes (l : Option Ts) (s : Schedule) (r : SourceRun) : Type 0 where
+  pub makes : state_of r.store.rows ≡ before s l
+  pub refuses : each refusal_in r.refused ≡ (source l s).refused
+
+-- a run came so far that these lines are left of the schedule
+unfoldable pub Reaches : Option Ts → Schedule → SourceRun → List (ℕ × Line) → Type 0
+Reaches l s r left = (p : Progress) × RunsTo r p × (behind_lines l left p ≡ behind_lines l s.lines (at_first s.caps))

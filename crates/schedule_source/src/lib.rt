@@ -2,6 +2,10 @@
 #![tactic(auto)]
 
 mod command;
+mod input;
 mod run;
+mod schedule;
 
-pub use run::source;
+pub use input::run_input;
+pub use run::{RefusedLine, SourceRun};
+pub use schedule::source;

@@ -3,3 +3,4 @@ pub mod Reading
 pub mod Telling
 pub mod Dumping
 pub mod Pieces
+pub mod Running

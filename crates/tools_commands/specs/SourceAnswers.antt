@@ -30,15 +30,19 @@ abbrev pub refused : SourceOrder → Schedule → List ℕ
 refused order s = refusals_text (source order.limit (schedule_in s)).refused
 
 -- the output failed once all refusals were told, or the report did before anything was listed
-abbrev pub Stopped : SourceOrder → Schedule → Turn → Turn → Type 0
-Stopped order s output report =
-    (Failed output × WritesFront output (listed order s) × Writes report (refused order s)) ⊎ (Failed report × Same output × WritesFront report (refused order s))
+abbrev pub Stopped : List ℕ → List ℕ → Turn → Turn → Type 0
+Stopped shown refusals output report =
+    (Failed output × WritesFront output shown × Writes report refusals) ⊎ (Failed report × Same output × WritesFront report refusals)
+
+-- this listing and these refusals are due
+abbrev pub Lists : List ℕ → List ℕ → Status → Turn → Turn → Type 0
+Lists shown refusals is.Done output report = Writes output shown × Writes report refusals
+Lists shown refusals is.WriteFault output report = Stopped shown refusals output report
+Lists shown refusals is.NoMemory output report = WritesFront output shown × WritesFront report refusals
+Lists shown refusals _ output report = ⊥
 
 abbrev pub ScheduleSays : SourceOrder → Schedule → Status → Turn → Turn → Type 0
-ScheduleSays order s is.Done output report = Writes output (listed order s) × Writes report (refused order s)
-ScheduleSays order s is.WriteFault output report = Stopped order s output report
-ScheduleSays order s is.NoMemory output report = WritesFront output (listed order s) × WritesFront report (refused order s)
-ScheduleSays order s _ output report = ⊥
+ScheduleSays order s status output report = Lists (listed order s) (refused order s) status output report
 
 -- a schedule was read, and this became of it
 abbrev pub Ran : SourceOrder → Status → Turn → Turn → Turn → Type 0
