@@ -11,7 +11,7 @@ use Rattle.std.specs.Option.{option_copied}
 use Rattle.std.proofs.lemmas.Bool.{cases_Bool}
 use Rattle.std.proofs.lemmas.Grind.{common_steps}
 use Rattle.state_model.specs.Keys.{Key, same_key}
-use Rattle.state_model.proofs.Keys.{key_is}
+use Rattle.state_model.proofs.Keys.{key_is, key_from}
 use Rattle.coll_state.specs.declared.collection.Record.{Record}
 use Rattle.coll_state.specs.Rows.{Row, row_of, Rising, key_in, id_of}
 use Rattle.coll_state.specs.Changes.{put_row, drop_row}
@@ -114,3 +114,28 @@ row_key (x ∷ rs) k r e =
 
 pub keyed : (o : Option (Bor Record)) (r : Bor Record) (rs : List Row) (k : Key) → option_map (λ (z : Bor Record). row_in z.now) o ≡ row_of rs k → o ≡ Some r → key_in (id_of r.now.document) ≡ k
 keyed o r rs k e is = row_key rs k (row_in r.now) (sym e ∙ ap (option_map (λ (z : Bor Record). row_in z.now)) is)
+
+-- a record that is found by its number is the row of its key
+pub found_keyed : (low : ℕ) (rs : List Record) (n : ℕ) (r : Record) → Rising low (rows_in rs) → found (at_no n) rs ≡ Some r → row_of (rows_in rs) (key_in (id_of r.document)) ≡ Some (row_in r)
+found_keyed low [] n r up e = cc
+found_keyed low (x ∷ rs) n r up e = elim (cases_Bool (is_eq (at_no n x))) [
+  | inl here ↦ (let is : x ≡ r = some_record x r (sym (taken here) ∙ e) in
+      subst (λ (z : Record). row_of (row_in x ∷ rows_in rs) (key_in (id_of z.document)) ≡ Some (row_in z)) is (row_here (row_in x) (rows_in rs) (row_in x).key (key_from (row_in x).key (row_in x).key refl)))
+  | inr later ↦ (let there = found_keyed x.no rs n r up.2 (sym (passed later) ∙ e) in
+      elim (cases_Bool (same_key (key_in (id_of r.document)) (row_in x).key)) [
+        | inl s ↦ absurd (twice (key_is (key_in (id_of r.document)) (row_in x).key s) there)
+        | inr s ↦ row_later (row_in x) (rows_in rs) (key_in (id_of r.document)) s ∙ there
+      ])
+]
+  where
+    some_record : (a b : Record) → Some a ≡ Some b → a ≡ b
+    some_record a b h = cc
+
+    taken : is_eq (at_no n x) ≡ true → found (at_no n) (x ∷ rs) ≡ Some x
+    taken h = rw h refl
+
+    passed : is_eq (at_no n x) ≡ false → found (at_no n) (x ∷ rs) ≡ found (at_no n) rs
+    passed h = rw h refl
+
+    twice : key_in (id_of r.document) ≡ (row_in x).key → row_of (rows_in rs) (key_in (id_of r.document)) ≡ Some (row_in r) → ⊥
+    twice k there = let f : Some (row_in r) ≡ None = sym there ∙ (ap (row_of (rows_in rs)) k ∙ up.1) in cc

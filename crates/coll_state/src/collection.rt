@@ -13,8 +13,10 @@ ghost use Rattle.std.specs.List.Sorted.{IsSearchInRange};
 
 use crate::documents::Documents;
 use crate::kept::KeptDocument;
+use crate::number_hints::{NumberHints, sum_of};
 use bson_encode::{cmp_key, type_of};
 use bson_value::Value;
+use byte_order::order;
 use containers::{List as JList, SmallBytes};
 use json_tree::Tree;
 use sorted_list::{SortedList, Walk};
@@ -50,6 +52,7 @@ pub(crate) struct Collection {
     next: u128,
     numbers: SortedList<NumberedKey>,
     records: SortedList<Record>,
+    hints: NumberHints,
 }
 
 impl Model for Collection {
@@ -100,6 +103,13 @@ fn order_beside(key: &SmallBytes, id: &Value) -> Ordering
     }
 }
 
+// How two keys stand beside each other.
+fn order_of(a: &SmallBytes, b: &SmallBytes) -> Ordering
+    ensures { result ≡ key_cmp a.now b.now }
+{
+    order(a.as_slice(), b.as_slice())
+}
+
 fn number_in(taken: Option<NumberedKey>) -> Option<u128>
     ensures { result ≡ option_map (λ n. n.no) taken }
 {
@@ -146,6 +156,7 @@ impl Collection {
             next: 1,
             numbers: SortedList::new(alloc),
             records: SortedList::new(alloc),
+            hints: NumberHints::new(alloc),
         }
     }
 
@@ -166,6 +177,40 @@ impl Collection {
         {
             Some(numbered) => Some(numbered.no),
             None => None,
+        }
+    }
+
+    // The number that is guessed for a key, where it is the one.
+    fn guessed_number(&self, key: &SmallBytes) -> Option<u128>
+        ensures { IfSome result (λ no. option_map (λ r. r.no) (row_of self.now.table.rows key.now) ≡ Some no) }
+    {
+        let no = self.hints.guess(sum_of(key.as_slice()))?;
+        let record = self
+            .records
+            .find_near(rank_of(no), |record| record.no.cmp(&no))?;
+        if record.document.is_under(key.as_slice()) {
+            Some(record.no)
+        } else {
+            None
+        }
+    }
+
+    // The number of a key, by a search.
+    fn sought_number(&self, key: &SmallBytes) -> Option<u128>
+        ensures { result ≡ option_map (λ r. r.no) (row_of self.now.table.rows key.now) }
+    {
+        match self.numbers.find(|numbered| order_of(&numbered.key, key)) {
+            Some(numbered) => Some(numbered.no),
+            None => None,
+        }
+    }
+
+    fn number_of_key(&self, key: &SmallBytes) -> Option<u128>
+        ensures { result ≡ option_map (λ r. r.no) (row_of self.now.table.rows key.now) }
+    {
+        match self.guessed_number(key) {
+            Some(no) => Some(no),
+            None => self.sought_number(key),
         }
     }
 
@@ -259,15 +304,6 @@ impl Collection {
         self.records.reserve(more)
     }
 
-    fn number_of_key(&self, key: &SmallBytes) -> Option<u128>
-        ensures { result ≡ option_map (λ r. r.no) (row_of self.now.table.rows key.now) }
-    {
-        match self.numbers.find(|numbered| numbered.key.cmp(key)) {
-            Some(numbered) => Some(numbered.no),
-            None => None,
-        }
-    }
-
     // The document in the place of the one under this number.
     fn replace(&mut self, no: u128, document: KeptDocument)
         requires { option_map (λ r. r.no) (row_of self.old.table.rows (key_in (id_of document))) ≡ Some no }
@@ -281,6 +317,34 @@ impl Collection {
         );
     }
 
+    // The document in the place of the one of its key, which is sought, or behind all others.
+    fn put_sought(&mut self, key: SmallBytes, document: KeptDocument)
+        requires key { key ≡ key_in (id_of document) }
+        requires room { 1 ≤ self.old.room }
+        requires number { self.old.table.next + 1 < 2 ^ 128 }
+        ensures table { self.new.table ≡ put_table key document self.old.table }
+        ensures room { self.old.room ≤ self.new.room + 1 }
+    {
+        let sum = sum_of(key.as_slice());
+        let no = self.next;
+        let there = self.numbers.put_new(
+            NumberedKey { key, no },
+            |a, b| order_of(&a.key, &b.key),
+            |numbered| numbered.no,
+        );
+        match there {
+            Some(no) => {
+                self.hints.note(sum, no);
+                self.replace(no, document);
+            }
+            None => {
+                self.records.push(Record { no, document });
+                self.next = no + 1;
+                self.hints.note(sum, no);
+            }
+        }
+    }
+
     /// The document in the place of the one of its key, or behind all others.
     pub(crate) fn put(&mut self, key: SmallBytes, document: KeptDocument)
         requires key { key ≡ key_in (id_of document) }
@@ -289,18 +353,9 @@ impl Collection {
         ensures table { self.new.table ≡ put_table key document self.old.table }
         ensures room { self.old.room ≤ self.new.room + 1 }
     {
-        let no = self.next;
-        let there = self.numbers.put_new(
-            NumberedKey { key, no },
-            |a, b| a.key.cmp(&b.key),
-            |numbered| numbered.no,
-        );
-        match there {
+        match self.guessed_number(&key) {
             Some(no) => self.replace(no, document),
-            None => {
-                self.records.push(Record { no, document });
-                self.next = no + 1;
-            }
+            None => self.put_sought(key, document),
         }
     }
 

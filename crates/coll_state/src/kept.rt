@@ -2,14 +2,17 @@
 ghost use Rattle.std.specs.Prelude.{◌≡◌, ◌↔◌, IfOk, IsTrue, true};
 ghost use Rattle.bson_value.specs.Spelling.{document_text};
 ghost use Rattle.bson_view.specs.Kept.{kept_bytes, kept_document};
+ghost use Rattle.bson_encode.specs.Key.{key_of};
+ghost use Rattle.bson_view.specs.Views.{elem_value};
 ghost use Rattle.coll_state.specs.Kept.{shown, shown_in, is_short};
+ghost use Rattle.coll_state.specs.Rows.{key_in, id_of};
 
 use bson_check::{DecodeFault, MAX_DOCUMENT_BYTES, MAX_LEVELS, faultless_if_spelled, spelled_once};
 use bson_core::decode;
 use bson_encode::encode;
 use bson_spelling::is_spelling;
 use bson_value::Doc;
-use bson_view::{DocumentBytes, Held, one_document};
+use bson_view::{DocumentBytes, Elem, Held, one_document};
 use std::alloc::{AllocError, Global};
 use std::marker::Model;
 
@@ -80,6 +83,36 @@ impl KeptDocument {
         match &self.form {
             Form::Spelled(bytes) => Held::Spelled(bytes.view()),
             Form::Built(doc) => Held::Built(doc),
+        }
+    }
+}
+
+// Whether the key is that of this `_id`, a number or an identifier. Of any other it says no.
+fn is_key_of(key: &[u8], id: &Elem<'_>) -> bool
+    ensures { result ≡ true → key_of (elem_value id.now) ≡ key.now }
+{
+    id.spells();
+    match id.tag {
+        1 | 7 | 16 | 18 => match key.split_first() {
+            Some((tag, rest)) => *tag == id.tag && rest == id.value,
+            None => false,
+        },
+        _ => false,
+    }
+}
+
+impl KeptDocument {
+    /// Whether the key is that of its `_id`. It says so of spelled documents whose `_id` is a number or an identifier; of any other it
+    /// says no.
+    pub(crate) fn is_under(&self, key: &[u8]) -> bool
+        ensures { result ≡ true → key_in (id_of self.now) ≡ key.now }
+    {
+        match &self.form {
+            Form::Spelled(bytes) => match bytes.view().field("_id") {
+                Some(id) => is_key_of(key, &id),
+                None => false,
+            },
+            Form::Built(_) => false,
         }
     }
 }

@@ -7,6 +7,7 @@ mod collection;
 mod documents;
 mod kept;
 mod laws;
+mod number_hints;
 mod prepared_change;
 mod state;
 mod tables;

@@ -1,12 +1,14 @@
 -- Objects and arrays as canonical Extended JSON, piece by piece.
-use Rattle.std.proofs.Common.{◌≡◌, ℕ, suc, ◌+◌, ◌-◌, ◌<◌, ◌≤◌, Bool, true, false, List, [], ◌∷◌, ◌++◌, length, map, take, drop, get_or, refl, sym, ap, ◌∙◌, append_assoc, arith}
+use Rattle.std.proofs.Common.{◌≡◌, ℕ, suc, ◌+◌, ◌-◌, ◌<◌, ◌≤◌, Bool, true, false, List, [], ◌∷◌, ◌++◌, length, map, take, drop, get_or, refl, sym, ap, subst, ◌∙◌, append_assoc, arith}
 use Rattle.std.specs.Prelude.{codes}
 use Rattle.std.proofs.Math.Seq.{drop-cons, drop-length}
 use Rattle.std.proofs.lemmas.List.{append-nil, length-append, take_at, drop_at}
 use Rattle.std.proofs.lemmas.Simd.{map-map}
 use Rattle.bson_value.specs.Spelling.{count_bytes, text_bytes}
-use Rattle.bson_value.specs.declared.value.Value.{Value, Value-F, fold-roll-Value}
+use Rattle.bson_value.specs.declared.value.Value.{Value, Value-F, out-Value, roll-Value, roll-out-Value, fold-roll-Value}
 use Rattle.bson_value.specs.declared.value.Value.TheVariants as values
+use Rattle.bson_check.specs.Spells.{AreBytesOf, IsDocument, IsArray, type_byte}
+use Rattle.bson_view.specs.Meaning.{AreValue}
 use Rattle.bson_view.specs.declared.elem.Elem.{Elem}
 use Rattle.json_tree.specs.declared.tree.Tree.{Tree}
 use Rattle.json_tree.specs.declared.tree.Tree.TheVariants as trees
@@ -71,9 +73,23 @@ scoped_put t fs out o1 o2 o3 o4 o5 front body next more f b n m one two three fo
     ∙ ap (λ z. out ++ text_of z) (sym (scoped_is t fs))
 
 -- the text between its length and its zero
-pub text_between : (b t : List ℕ) → b ≡ text_bytes t → (4 ≤ length b - 1) × (take (length b - 1 - 4) (drop 4 b) ≡ t)
-text_between b t e =
-    let count = count_bytes (length t + 1) in
-    let four : length count ≡ 4 = refl in
+between : (count b t : List ℕ) → length count ≡ 4 → b ≡ count ++ (t ++ 0 ∷ []) → (4 ≤ length b - 1) × (take (length b - 1 - 4) (drop 4 b) ≡ t)
+between count b t four e =
     let size : length b ≡ 4 + (length t + 1) = ap length e ∙ omega (arith, four, length-append count (t ++ 0 ∷ []), length-append t (0 ∷ [])) in
-    (omega (arith, size), ap (λ z. take (length b - 1 - 4) (drop 4 z)) e ∙ ap (take (length b - 1 - 4)) (drop_at count (t ++ 0 ∷ []) 4 (sym four)) ∙ take_at t (0 ∷ []) (length b - 1 - 4) (omega (arith, size)))
+    (omega (arith, size), ap (λ z. take (length b - 1 - 4) (drop 4 z)) e ∙ ap (take (length b - 1 - 4)) (drop_at count (t ++ 0 ∷ []) 4 four) ∙ take_at t (0 ∷ []) (length b - 1 - 4) (omega (arith, size)))
+
+pub text_between : (b t : List ℕ) → b ≡ text_bytes t → (4 ≤ length b - 1) × (take (length b - 1 - 4) (drop 4 b) ≡ t)
+text_between b t e = between (count_bytes (length t + 1)) b t refl e
+
+-- the text that the bytes of a value of type 2 hold
+pub record IsText (b : List ℕ) (v : Value) : Type 0 where
+  pub text : List ℕ
+  pub is : v ≡ values.Str text
+  pub held : take (length b - 1 - 4) (drop 4 b) ≡ text
+
+text_at : (n : ℕ) (b : List ℕ) (f : Value-F Value) → AreBytesOf (IsDocument n) (IsArray n) b f → type_byte f ≡ 2 → IsText b (roll-Value f)
+text_at n b (Value-F.Str t) s k = record { text = t; is = values.rolls-Str t; held = (between s.0 b t s.1.four (s.3 ∙ append_assoc s.0 t (0 ∷ []))).1 }
+text_at n b _ s k = absurd (omega (arith, k))
+
+pub of_text : (b : List ℕ) (v : Value) → AreValue 2 b v → IsText b v
+of_text b v value = subst (IsText b) (roll-out-Value v) (text_at value.levels b (out-Value v) value.spells (sym value.kind))

@@ -11,7 +11,8 @@ use Rattle.bson_view.specs.declared.held.Held.{Held}
 use Rattle.bson_view.specs.declared.walk.HeldItems.{HeldItems}
 use Rattle.bson_view.specs.Held.{held_document}
 use Rattle.bson_view.specs.HeldWalk.{items_left}
-use Rattle.bson_view.specs.Meaning.{IsLeaf}
+use Rattle.bson_check.specs.Spells.{type_byte}
+use Rattle.bson_view.specs.Meaning.{AreValue, IsLeaf}
 use Rattle.bson_view.specs.References.{value_meant}
 use Rattle.json_tree.specs.declared.tree.Tree.{Tree, Tree-F, fold-roll-Tree}
 use Rattle.json_tree.specs.declared.tree.Tree.TheVariants as trees
@@ -103,3 +104,7 @@ is_array vs l = subst IsLeaf (ap out-Value (sym (values.rolls-Array (items_left 
 
 pub is_scoped : (t : Bor (List ℕ)) (h : Held) → IsLeaf (out-Value (value_meant (refs.ScopedCode t h))) → ⊥
 is_scoped t h l = subst IsLeaf (ap out-Value (sym (values.rolls-ScopedCode t.now (held_document h))) ∙ out-roll-Value (Value-F.ScopedCode t.now (held_document h))) l
+
+-- a text is of type 2
+pub text_kind : (t : Bor (List ℕ)) (tag : ℕ) (b : List ℕ) (v : Value) → AreValue tag b v → value_meant (refs.Str t) ≡ v → tag ≡ 2
+text_kind t tag b v value is = value.kind ∙ ap (λ w. type_byte (out-Value w)) (sym is) ∙ ap (λ w. type_byte (out-Value w)) (sym (values.rolls-Str t.now)) ∙ ap type_byte (out-roll-Value (Value-F.Str t.now))

@@ -21,6 +21,15 @@ const ONE: [u8; 8] = [0, 0, 0, 0, 0, 0, 240, 63];
 
 const MINUS_ONE: [u8; 8] = [0, 0, 0, 0, 0, 0, 240, 191];
 
+// A text, between its length and its zero. That its bytes are UTF-8 is known already.
+fn put_text(out: &mut Vec<u8>, elem: &Elem<'_>) -> Result<(), AllocError>
+    requires { elem.now.tag ≡ 2 }
+    ensures { OnOk result (out.new.items ≡ out.old.items ++ json_of (elem_value elem.now)) }
+{
+    elem.spells();
+    put_quoted(out, &elem.value[4..elem.value.len() - 1])
+}
+
 // Bytes in hexadecimal digits, as a string.
 fn put_digits(out: &mut Vec<u8>, bytes: &[u8], digits: &mut [u8]) -> Result<(), AllocError>
     requires { length digits.old ≡ 2 * length bytes.now }
@@ -171,10 +180,14 @@ pub fn put_leaf(alloc: Global, out: &mut Vec<u8>, elem: &Elem<'_>) -> Result<(),
     requires { IsLeaf (out-Value (elem_value elem.now)) }
     ensures { OnOk result (out.new.items ≡ out.old.items ++ json_of (elem_value elem.now)) }
 {
+    if elem.tag == 2 {
+        return put_text(out, elem);
+    }
+    elem.spells();
     match elem.read() {
         ValueRef::Double(bits) => put_double(out, bits),
-        ValueRef::Str(text) => put_quoted(out, text.as_bytes()),
-        ValueRef::Object(_) | ValueRef::Array(_) | ValueRef::ScopedCode { .. } => unreachable!(),
+        ValueRef::Str(_) | ValueRef::Object(_) | ValueRef::Array(_) | ValueRef::ScopedCode { .. } =>
+            unreachable!(),
         ValueRef::Binary { subtype, bytes } => put_binary(alloc, out, subtype, bytes),
         ValueRef::Undefined => out.extend_from_slice(b"{\"$undefined\":true}"),
         ValueRef::Oid(id) => put_object_id(out, id),

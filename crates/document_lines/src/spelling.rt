@@ -9,6 +9,7 @@ ghost use Rattle.bson_view.specs.Parts.{bytes_of, fields_of, values_of};
 ghost use Rattle.document_lines.specs.Elems.{ordered_elems, in_order, AreBelow};
 
 use bson_view::{Elem, Elements, View};
+use byte_order::order;
 use itoa::Buffer;
 use std::alloc::{AllocError, Global};
 
@@ -37,7 +38,7 @@ fn by_name<'a>(elems: Vec<Elem<'a>>) -> Vec<Elem<'a>>
     ensures moved { IsPermutation elems.entry.items result.items }
 {
     let mut elems = elems;
-    elems.sort_unstable_by(|a, b| a.name.cmp(b.name));
+    elems.sort_unstable_by(|a, b| order(a.name, b.name));
     elems
 }
 

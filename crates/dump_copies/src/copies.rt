@@ -158,7 +158,8 @@ impl Copies {
 
     /// The next n documents of a collection, read and written as one block, and where the cursor ended, at once the end of
     /// their namespace. Tells how many documents they are, or None where no cursor of this name reads on. `block` is where
-    /// they are gathered; what it holds is dropped.
+    /// they are gathered; what it holds is dropped. Behind an error some front of the block was written, and the copies are of
+    /// no use.
     pub fn step<K: Sink>(
         &mut self,
         store: &Store,

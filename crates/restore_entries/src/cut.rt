@@ -18,7 +18,7 @@ fn takes_action(rules: &Filter, ns: &NsName, action: &Action) -> bool
     }
 }
 
-/// Whether the filter takes the entry, of a group some part of it. It takes no memory.
+/// Whether the filter takes the entry. A group is always taken; its items may all be left out. It takes no memory.
 pub fn takes_entry(rules: &Filter, entry: &Entry) -> bool
     ensures { result ≡ takes_entry rules.now entry.now }
 {

@@ -25,7 +25,7 @@ use Rattle.restore_plan.specs.declared.restore.Restore.{Restore}
 use Rattle.restore_plan.specs.Faults.{of_replay, of_indexes}
 use Rattle.restore_plan.specs.Base.{is_of_base, base_step, entries_in, played, bad_at, or_later}
 
--- what was made of the takings so far: a state, the entries that wait to be replayed on it, and the namespaces that were ended, in the order of names
+-- what was made of the takings so far: a state, the entries that wait to be replayed on it, and the namespaces whose ends were noted, in the order of names
 pub record Contents : Type 0 where
   pub state : State
   pub entries : List Entry
@@ -46,7 +46,7 @@ plays_early p = p.replaying && length p.filter.renames == 0
 abbrev pub is_ended : NsName → List NsName → Bool
 is_ended n ns = list_any (is_at (namespace_cmp n)) ns
 
--- an entry needn't wait where none waits before it, and it changes a document of a namespace that was ended
+-- an entry needn't wait where none waits before it, and it changes a document of a namespace whose end was noted
 abbrev pub is_ripe : Contents → Entry → Bool
 is_ripe c e = length c.entries == 0 && is_of_document (out-Action e.action) && is_ended e.ns c.ended
 

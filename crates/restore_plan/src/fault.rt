@@ -6,7 +6,8 @@ use bson_value::{NsName, Text, Ts, Value};
 use index_build::CountFault;
 use replay::ReplayFault;
 
-/// Why an archive isn't restored. The first three are met while it is taken, the others once all of it was taken.
+/// Why an archive isn't restored. `Metadata`, `NoId` and `Entry` are met while it is taken, `NoMemory` at any time, the others once
+/// all of it was taken.
 #[derive(Drop)]
 pub enum RestoreFault {
     NoMemory,

@@ -29,8 +29,8 @@ impl Restore {
         self.fault
     }
 
-    /// The state that all takings make, once the entries that waited were replayed in their order, and the numbers of its keys. The restore is
-    /// spent. One that stopped answers what it stopped for.
+    /// The state that all takings make, once the entries that waited were replayed in their order, and the numbers of its keys. The
+    /// restore is spent. One that stopped answers what it stopped for. A state that counted 2^126 calls finds no memory.
     pub fn finish(self) -> Result<(State, Counts), RestoreFault>
         ensures ok { IfOk result (λ r. state_of r.0 ≡ finished (contents_of self)) }
         ensures counts { IfOk result (λ r. r.1 ≡ counts_of (state_of r.0)) }

@@ -19,9 +19,9 @@ use restore_filter::Filter;
 use std::alloc::{AllocError, Global};
 use std::collections::BTreeSet;
 
-/// Makes a state of what an archive holds, a taking at a time. An entry of the oplog is replayed as it comes where it changes one
-/// document of a namespace that was ended and no entry waits before it; any other waits for the end. It stops at the first taking that
-/// it refuses.
+/// Makes a state of what an archive holds, a taking at a time. An entry of the oplog that changes one document is replayed as it comes
+/// where the plan changes no names, no entry waits before it, and its namespace was ended and has a collection; any other waits for the
+/// end. It stops at the first taking that it refuses.
 #[derive(Drop)]
 pub struct Restore {
     pub(crate) alloc: Global,

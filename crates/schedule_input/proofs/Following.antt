@@ -1,13 +1,12 @@
 -- What was read of an input line by line is read of the whole.
-use Rattle.std.proofs.Common.{◌≡◌, ℕ, ◌≤◌, List, [], ◌∷◌, ◌++◌, refl, sym, ap, ◌∙◌, append-nil, arith}
-use Rattle.std.specs.Prelude.{Option, Some, None, Result, Ok, Err, IfSome, true}
+use Rattle.std.proofs.Common.{◌≡◌, ℕ, ◌≤◌, List, [], ◌++◌, refl, sym, ap, ◌∙◌, append-nil, arith}
+use Rattle.std.specs.Prelude.{Option, Some, None, Ok, Err, IfSome}
 use Rattle.schedule_text.specs.declared.reader.LineReader.{LineReader}
 use Rattle.schedule_text.specs.declared.schedule.NumberedLine.{NumberedLine}
-use Rattle.schedule_text.specs.declared.schedule.Schedule.{Schedule}
 use Rattle.schedule_text.specs.Reading.{Reader, Bad, KeepsCap, at_start, with_lines, schedule_of, schedule_left, behind_lines}
 use Rattle.schedule_text.proofs.Left.{all_left, behind_none, behind_more}
 use Rattle.schedule_input.specs.Places.{Place}
-use Rattle.schedule_input.specs.Inputs.{to_come, Leads, IsOver, Led}
+use Rattle.schedule_input.specs.Inputs.{to_come, schedule_so_far, Leads, IsOver, Led}
 
 -- ---- the cap
 
@@ -67,10 +66,6 @@ led_more lines more p q None b c k l = tt
 led_more lines more p q (Some x) None c k l = absurd k
 led_more lines more p q (Some x) (Some y) None k l = absurd l
 led_more lines more p q (Some x) (Some y) (Some z) k l = k ∙ (ap (behind_lines lines) l ∙ behind_more lines more (to_come q z))
-
--- the schedule of these lines
-abbrev pub schedule_so_far : LineReader → List NumberedLine → Schedule
-schedule_so_far r lines = record { cap = r.cap; bytes = r.bytes; lines = lines }
 
 pub led_over : (lines : List NumberedLine) (p q : Place) (a b c : Option (List ℕ)) → Led lines p a b → IsOver p q b c → IfSome a (λ all. schedule_of all ≡ Ok (schedule_so_far q.reader lines)) × IfSome a (λ all. c ≡ Some [])
 led_over lines p q None b c k l = (tt, tt)

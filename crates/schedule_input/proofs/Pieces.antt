@@ -1,14 +1,13 @@
 -- Bytes that are read piece by piece, and the line feed that is looked for in them.
 use Rattle.std.proofs.Common.{◌≡◌, ◌≢◌, ℕ, zero, suc, ◌+◌, ◌-◌, ◌<◌, ◌≤◌, List, [], ◌∷◌, ◌++◌, length, take, drop, true, refl, sym, ap, ◌∙◌, subst, arith, inl, inr, append_assoc, append-nil, length-append}
 use Rattle.std.specs.Prelude.{◌⊎◌, ◌==◌, ◌&&◌, not, Bool, false, Option, Some, None}
-use Rattle.std.specs.List.{list_all}
 use Rattle.std.specs.Io.KnownBytes.{Consumes, IsAtEnd}
 use Rattle.std.proofs.lemmas.Bool.Decides.{nat_tests}
 use Rattle.std.proofs.lemmas.List.{length-take-le, take-append-drop, take_all, take_at, length-drop}
 use Rattle.std.proofs.lemmas.List.Folds.{list_all-append}
 use Rattle.schedule_text.specs.Words.{lacks}
 use Rattle.schedule_text.specs.Lines.{EndsAt}
-use Rattle.schedule_input.specs.Inputs.{Grown, ReadsMore, IsLast, IsNext}
+use Rattle.schedule_input.specs.Inputs.{Grown, ReadsMore, IsNext}
 
 consumes_none : (a : Option (List ℕ)) → Consumes a a []
 consumes_none None = tt

@@ -1,7 +1,7 @@
 -- One line of the text.
-use Rattle.std.proofs.Common.{◌≡◌, ℕ, suc, ◌+◌, ◌<◌, ◌≤◌, ◌≢◌, List, [], ◌∷◌, ◌++◌, length, take, drop, refl, sym, ap, ◌∙◌, subst, arith, inl, inr, append_assoc, append-nil, length-append}
+use Rattle.std.proofs.Common.{◌≡◌, ℕ, ◌+◌, ◌<◌, ◌≤◌, List, [], ◌∷◌, ◌++◌, length, take, drop, refl, sym, ap, ◌∙◌, subst, arith, inl, inr, append_assoc, append-nil, length-append}
 use Rattle.std.specs.Prelude.{◌⊎◌, Option, Some, None, Result, Ok, Err, IfSome, IsSome, true}
-use Rattle.std.specs.Io.KnownBytes.{Consumes, IsAtEnd}
+use Rattle.std.specs.Io.KnownBytes.{IsAtEnd}
 use Rattle.std.proofs.lemmas.Bool.{cases_lt}
 use Rattle.tool_io.specs.Ends.{End}
 use Rattle.std.proofs.lemmas.List.{length-take-le}
@@ -11,10 +11,9 @@ use Rattle.schedule_text.specs.declared.fault.LineFault.{LineFault}
 use Rattle.schedule_text.specs.declared.fault.LineFault.TheVariants as lines
 use Rattle.schedule_text.specs.declared.reader.LineReader.{LineReader}
 use Rattle.schedule_text.specs.declared.schedule.NumberedLine.{NumberedLine}
-use Rattle.schedule_text.specs.Words.{lacks}
 use Rattle.schedule_text.specs.Lines.{whole_lines, EndsAt}
 use Rattle.schedule_text.specs.Reading.{Bad, Reader, after_line, with_lines, added, schedule_left, behind_lines}
-use Rattle.schedule_text.proofs.LineEnds.{first_cut, no_feed, BeginsFirst, begins_first, end_within}
+use Rattle.schedule_text.proofs.LineEnds.{first_cut, no_feed, begins_first, end_within}
 use Rattle.schedule_text.proofs.Left.{left_behind, left_fails, none_left}
 use Rattle.schedule_input.specs.Places.{Place}
 use Rattle.schedule_input.specs.declared.fault.InputFault.{InputFault}

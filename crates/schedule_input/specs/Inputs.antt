@@ -5,6 +5,7 @@ use Rattle.tool_io.specs.Causes.{Rose}
 use Rattle.tool_io.specs.Ends.{End}
 use Rattle.schedule_text.specs.declared.fault.LineFault.{LineFault}
 use Rattle.schedule_text.specs.declared.fault.LineFault.TheVariants as lines
+use Rattle.schedule_text.specs.declared.reader.LineReader.{LineReader}
 use Rattle.schedule_text.specs.declared.schedule.NumberedLine.{NumberedLine}
 use Rattle.schedule_text.specs.declared.schedule.Schedule.{Schedule}
 use Rattle.schedule_text.specs.Words.{lacks}
@@ -51,10 +52,14 @@ Leads lines old new None after = ⊤
 Leads lines old new (Some rest) None = ⊥
 Leads lines old new (Some rest) (Some now) = to_come old rest ≡ behind_lines lines (to_come new now)
 
+-- the schedule of these lines, with the caps that were read
+abbrev pub schedule_so_far : LineReader → List NumberedLine → Schedule
+schedule_so_far r lines = record { cap = r.cap; bytes = r.bytes; lines = lines }
+
 -- where it is known, all of it was read, and no line comes
 abbrev pub IsOver : Place → Place → Option (List ℕ) → Option (List ℕ) → Type 0
 IsOver old new None after = ⊤
-IsOver old new (Some rest) after = (after ≡ Some []) × (to_come old rest ≡ Ok (record { cap = new.reader.cap; bytes = new.reader.bytes; lines = [] }))
+IsOver old new (Some rest) after = (after ≡ Some []) × (to_come old rest ≡ Ok (schedule_so_far new.reader []))
 
 -- why no line was read: the first bad line, a read that failed, or no memory
 abbrev pub Fails : Place → InputFault → End → End → Type 0

@@ -12,13 +12,13 @@ use Rattle.schedule_text.specs.declared.schedule.NumberedLine.{NumberedLine}
 use Rattle.schedule_text.specs.Reading.{KeepsCap}
 use Rattle.schedule_input.specs.declared.fault.InputFault.{InputFault}
 use Rattle.schedule_input.specs.declared.fault.InputFault.TheVariants as faults
-use Rattle.schedule_input.specs.Inputs.{Fails, Gives, Led, NextIsFurther}
+use Rattle.schedule_input.specs.Inputs.{Fails, Gives, Led, NextIsFurther, schedule_so_far}
 use Rattle.schedule_input.specs.Places.{Place}
 use Rattle.schedule_input.proofs.Following.{led_first, led_more, led_over, led_bad}
 use Rattle.schedule_report.specs.Schedules.{numbered}
 use Rattle.schedule_source.specs.declared.run.SourceRun.{SourceRun}
 use Rattle.schedule_source.specs.Progress.{Advances, RunsTo, at_first, behind_line, behind_lines}
-use Rattle.schedule_source.specs.Reading.{IsUnread, Next, AreRun, Behind, bytes_left, caps_in, schedule_so_far}
+use Rattle.schedule_source.specs.Reading.{IsUnread, Next, AreRun, Behind, bytes_left, caps_in}
 use Rattle.schedule_source.specs.Inputs.{FailsLater, RunsInput}
 use Rattle.schedule_source.proofs.Progresses.{behind_more, makes_all}
 

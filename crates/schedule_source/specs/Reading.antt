@@ -4,9 +4,8 @@ use Rattle.bson_value.specs.declared.value.Ts.{Ts}
 use Rattle.history_model.specs.Stages.{Caps}
 use Rattle.schedule_text.specs.declared.reader.LineReader.{LineReader}
 use Rattle.schedule_text.specs.declared.schedule.NumberedLine.{NumberedLine}
-use Rattle.schedule_text.specs.declared.schedule.Schedule.{Schedule}
 use Rattle.schedule_text.specs.Reading.{at_start, schedule_of, with_lines}
-use Rattle.schedule_input.specs.Inputs.{Led}
+use Rattle.schedule_input.specs.Inputs.{Led, schedule_so_far}
 use Rattle.schedule_input.specs.Places.{Place}
 use Rattle.schedule_report.specs.Schedules.{numbered}
 use Rattle.schedule_source.specs.declared.run.SourceRun.{SourceRun}
@@ -21,9 +20,6 @@ pub record IsUnread (p : Place) : Type 0 where
 
 abbrev pub caps_in : LineReader → Caps
 caps_in r = record { entries = r.cap; bytes = r.bytes }
-
-abbrev pub schedule_so_far : LineReader → List NumberedLine → Schedule
-schedule_so_far r lines = record { cap = r.cap; bytes = r.bytes; lines = lines }
 
 -- where the input is known, these are all of its lines, and all of it was read
 pub record IsWhole (lines : List NumberedLine) (p : Place) (all now : Option (List ℕ)) : Type 0 where

@@ -129,7 +129,8 @@ impl Store {
     }
 
     /// The number of entries that a command would record, or why it would be refused. The store stays as it is. The time is
-    /// that of `apply`.
+    /// that of `apply`, but that no indexes are kept: where those of the collection aren't kept yet, each call tests a document
+    /// over all documents.
     pub fn check(&self, cmd: &Command) -> Result<u32, StoreFault>
         ensures stage { (st : Stage) → StandsAt self.now st → CheckedAt cmd.now st result }
         ensures most { IfOk result (λ n. n ≤ 2) }

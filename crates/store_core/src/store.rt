@@ -57,7 +57,8 @@ fn first_entry(alloc: Global) -> Result<Bytes, AllocError>
 
 impl Store {
     /// No collection, the clock at 1, updates recorded in the second form, and one entry, of no write, at 1:1. The oplog
-    /// keeps at most `cap` entries and, as long as there is more than one, at most `bytes` bytes of them.
+    /// keeps at most `cap` entries, whose places it takes at once, and, as long as there is more than one, at most `bytes` bytes of
+    /// them.
     pub fn new(alloc: Global, cap: usize, bytes: Option<u64>) -> Result<Store, AllocError>
         requires least { 1 ≤ cap }
         requires most { cap ≤ 1000000 }
@@ -94,7 +95,7 @@ impl Store {
         self.log.newest()
     }
 
-    /// The timestamp of the next entry: the clock's second where that is later, else the newest one's next increment.
+    /// The timestamp of the next entry: the clock's second where that is later, else the newest one's next ordinal.
     pub fn next_ts(&self) -> Ts
         ensures { result ≡ next_ts self.now.log.clock self.now.log.newest }
     {

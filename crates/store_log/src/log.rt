@@ -49,7 +49,7 @@ fn put_entry(oplog: &mut CappedOplog, ts: Ts, bytes: Bytes)
     trim_all(oplog);
 }
 
-/// The timestamp behind the newest one: the clock's second where that is later, else the next increment.
+/// The timestamp behind the newest one: the clock's second where that is later, else the next ordinal.
 pub fn next_ts(clock: u32, newest: Ts) -> Ts
     requires { newest.inc < 4294967295 }
     ensures { result ≡ next_ts clock newest }

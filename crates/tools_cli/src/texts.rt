@@ -1,5 +1,6 @@
 //! What `--help` and `--version` show.
 
+/// What `--help` shows.
 pub const HELP: &str = "\
 usage: suzhimanu source [OPTION..] < SCHEDULE
        suzhimanu dump --archive --oplog < SCHEDULE > ARCHIVE
@@ -43,4 +44,5 @@ drill  draws N lines of a schedule, from 1 to 100,000, dumps it, restores the ar
 In a pattern * stands for any characters, and \\ takes the next character as it stands.
 ";
 
+/// What `--version` shows.
 pub const VERSION: &str = "suzhimanu 0.1.0\n";

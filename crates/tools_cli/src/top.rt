@@ -108,8 +108,10 @@ fn answer<S: Source, K: Sink, R: Sink>(
 }
 
 /// All that the program does: reads the input, writes the output, tells a line on the report where the status isn't 0, and
-/// answers the status. Where it restores the archive of a dump with status 0, the output is the listing of the source, in
-/// which each transaction stands whole or not at all; and there the status is 0, or that of missing memory, as long as the input and the output don't fail.
+/// answers the status. Of a restore of the archive of a dump that is done, replaying up to a limit later than the copy's last
+/// read or to the end: where the status is 0, the output is the listing of the source just before the limit, or at the copy's
+/// end where that is earlier, in which each transaction stands whole or not at all; and the status is 0, or that of missing
+/// memory, as long as the input and the output don't fail.
 pub fn tools<S: Source, K: Sink, R: Sink>(
     alloc: Global,
     words: &[String],

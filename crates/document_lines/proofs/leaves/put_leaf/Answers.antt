@@ -1,25 +1,26 @@
-use Rattle.std.proofs.Common.{◌≡◌, List, ℕ, ◌++◌, ap, subst, ◌∙◌, inl, inr, rules, true, false}
+use Rattle.std.proofs.Common.{◌≡◌, ◌++◌, sym, ap, ◌∙◌, inl, inr, rules, true, false}
 use Rattle.std.specs.Prelude.{OnOk}
-use Rattle.json_text.specs.Print.{quoted, text_of}
+use Rattle.json_text.specs.Print.{text_of}
 use Rattle.extjson.specs.Trees.{int_tree, long_tree, date_tree}
 use Rattle.bson_value.specs.declared.value.Value.TheVariants as values
+use Rattle.bson_view.specs.References.{value_meant}
 use Rattle.document_lines.specs.Json.{json_of}
-use Rattle.document_lines.proofs.LeafTexts.{appended, leaf_put, nested, is_object, is_array, is_scoped, double_json, str_json, binary_json, undefined_json, oid_json, bool_json, date_json, null_json, regex_json, pointer_json, code_json, symbol_json, int_json, stamp_json, long_json, decimal_json, min_json, max_json}
+use Rattle.document_lines.proofs.LeafTexts.{appended, leaf_put, nested, is_object, is_array, is_scoped, text_kind, double_json, binary_json, undefined_json, oid_json, bool_json, date_json, null_json, regex_json, pointer_json, code_json, symbol_json, int_json, stamp_json, long_json, decimal_json, min_json, max_json}
 use Rattle.document_lines.proofs.leaves.put_leaf.Goals as goal
 
 pub unreachable-requires : goal.unreachable-requires
 unreachable-requires c =
     let never = nested c.read.result _ c.read.ensures c.requires in
-    elim c.in-Object.is [
-      | inl o ↦ never _ o.1 (is_object o.0)
-      | inr other ↦ elim other [ inl a ↦ never _ a.1 (is_array a.0) | inr s ↦ never _ s.2 (is_scoped s.0 s.1) ]
+    elim c.in-Str.is [
+      | inl t ↦ c.if-elem-eq2.false (text_kind t.0 _ _ _ c.spells.ensures.spelled (ap value_meant (sym t.1) ∙ c.read.ensures))
+      | inr other ↦ elim other [
+        | inl o ↦ never _ o.1 (is_object o.0)
+        | inr more ↦ elim more [ inl a ↦ never _ a.1 (is_array a.0) | inr s ↦ never _ s.2 (is_scoped s.0 s.1) ]
+      ]
     ]
 
 pub returns-in-Double : goal.returns-in-Double
 returns-in-Double c = leaf_put _ _ _ _ _ _ c.in-Double.ensures (double_json c.in-Double.bits) c.put_double.ensures
-
-pub returns-in-Str : goal.returns-in-Str
-returns-in-Str c = leaf_put _ _ _ _ _ _ c.in-Str.ensures (str_json c.in-Str.text.now) (subst (λ (z : List ℕ). OnOk c.put_quoted.result (c.put_quoted.new.out.items ≡ c.args.out.now.items ++ quoted z)) c.as_bytes.ensures.value c.put_quoted.ensures)
 
 pub returns-in-Binary : goal.returns-in-Binary
 returns-in-Binary c = leaf_put _ _ _ _ _ _ c.in-Binary.ensures (binary_json c.in-Binary.subtype c.in-Binary.bytes.now) c.put_binary.ensures

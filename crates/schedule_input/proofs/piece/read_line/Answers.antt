@@ -1,4 +1,4 @@
-use Rattle.std.proofs.Common.{◌≡◌, ◌+◌, ◌-◌, length, drop, true, false, Bool, List, ℕ, sym, ap, ◌∙◌, subst, arith}
+use Rattle.std.proofs.Common.{◌≡◌, ◌-◌, length, true, Bool, List, ℕ, ap, subst, arith}
 use Rattle.schedule_text.specs.Words.{lacks}
 use Rattle.schedule_text.specs.Lines.{EndsAt}
 use Rattle.schedule_input.specs.Inputs.{ReadsMore}

@@ -1,4 +1,4 @@
-use Rattle.std.proofs.Common.{◌≡◌, ◌+◌, ◌-◌, ◌<◌, ◌≤◌, length}
+use Rattle.std.proofs.Common.{◌+◌, ◌-◌, ◌<◌, ◌≤◌, length}
 use Rattle.schedule_input.specs.Inputs.{Grown}
 use Rattle.schedule_input.proofs.Pieces.{lacks_front}
 use Rattle.schedule_input.proofs.piece.read_line.Given as goal

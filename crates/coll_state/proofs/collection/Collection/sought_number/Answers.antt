@@ -5,7 +5,7 @@ use Rattle.coll_state.specs.Rows.{row_of}
 use Rattle.coll_state.specs.Stock.{Stock}
 use Rattle.coll_state.proofs.RowLists.{no_in}
 use Rattle.coll_state.proofs.Parts.{at_key, numbers_ordered, number_is}
-use Rattle.coll_state.proofs.collection.Collection.number_of_key.Goals as goal
+use Rattle.coll_state.proofs.collection.Collection.sought_number.Goals as goal
 
 pub returns-in-Some : goal.returns-in-Some
 returns-in-Some c =

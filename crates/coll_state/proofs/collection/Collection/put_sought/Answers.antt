@@ -9,7 +9,7 @@ use Rattle.coll_state.specs.Stock.{Stock, AreParts, rows_in, table_in}
 use Rattle.coll_state.proofs.RowLists.{no_in}
 use Rattle.coll_state.proofs.Records.{append_row}
 use Rattle.coll_state.proofs.Parts.{at_key, numbers_ordered, numbers_kept, no_number, absent_of, next_fresh, parts_added, table_put}
-use Rattle.coll_state.proofs.collection.Collection.put.Goals as goal
+use Rattle.coll_state.proofs.collection.Collection.put_sought.Goals as goal
 
 pub invariant_of-self : goal.invariant_of-self
 invariant_of-self c =
