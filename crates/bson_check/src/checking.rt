@@ -216,7 +216,8 @@ fn whole(bytes: &[u8], max: usize, depth: usize) -> Result<(), BsonFault>
 }
 
 /// Whether the bytes, all of them, are one document of at most `max` bytes and `depth` levels. Else it
-/// answers the first fault from the left, with its place in the bytes.
+/// answers the first fault from the left, with its place in the bytes. It takes no memory; its stack grows with the levels,
+/// of which there are at most `depth`.
 pub fn check(bytes: &[u8], max: usize, depth: usize) -> Result<(), BsonFault>
     ensures spelled { IsOk result ↔ IsSomeDocument max depth bytes.now }
     ensures fault { result_err result ≡ first_fault max depth bytes.now }

@@ -75,8 +75,8 @@ fn order_by_fours(a: &[u8], b: &[u8], both: usize) -> Ordering
 }
 
 /// The order of two byte strings, which is that of the slices: the first bytes that differ decide, and
-/// else the lengths. It compares eight bytes in a step, where the slices' own order compares one.
-/// It takes no memory.
+/// else the lengths. It compares eight bytes in a step, also those that end the shorter string and those that
+/// differ, which the slices' own order compares one by one. It takes no memory.
 #[inline]
 pub fn order(a: &[u8], b: &[u8]) -> Ordering
     ensures { result ≡ slice_cmp nat_cmp a.now b.now }

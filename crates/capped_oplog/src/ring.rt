@@ -27,8 +27,8 @@ impl Model for CappedOplog {
 }
 
 impl CappedOplog {
-    /// An empty ring of at most `cap` entries. `bytes` bounds the bytes of the entries together, as
-    /// long as there is more than one.
+    /// An empty ring of at most `cap` entries, with memory for all their places at once. `bytes` bounds the bytes of the
+    /// entries together, as long as there is more than one.
     pub fn new(alloc: Global, cap: usize, bytes: Option<u64>) -> Result<CappedOplog, AllocError>
         requires least { 1 ≤ cap }
         requires most { cap ≤ 1000000 }
@@ -92,6 +92,7 @@ impl CappedOplog {
         self.ring.len()
     }
 
+    /// Whether it has no entry.
     pub fn is_empty(&self) -> bool
         ensures { result ≡ (length self.now.entries == 0) }
     {

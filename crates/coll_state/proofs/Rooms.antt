@@ -1,98 +1,113 @@
 -- Room for changes, and changes made where there is room.
 use Rattle.std.proofs.Common.{◌≡◌, ℕ, zero, suc, ◌+◌, ◌<◌, ◌≤◌, List, [], ◌∷◌, ◌++◌, length, take, Bool, true, false, cond, refl, sym, ap, ◌∙◌, subst, arith, Option, Some, None, inl, inr}
-use Rattle.std.specs.Prelude.{◌⊎◌, slice_index_or}
+use Rattle.std.specs.Prelude.{◌⊎◌, if◌then◌else◌, slice_index_or}
 use Rattle.std.specs.BTreeMap.{UpdatesBy}
 use Rattle.std.specs.FinMap as map
 use Rattle.std.proofs.lemmas.Bool.{cases_Bool}
 use Rattle.bson_value.specs.declared.namespace.NsName.{NsName}
 use Rattle.bson_value.specs.NamespaceOrder.{namespace_cmp}
 use Rattle.state_model.specs.Keys.{Key, same_ns}
-use Rattle.state_model.proofs.Keys.{ns_is}
+use Rattle.state_model.proofs.Keys.{ns_is, ns_refl}
 use Rattle.coll_state.specs.declared.change.Change.{Change}
 use Rattle.coll_state.specs.declared.prepared_change.PreparedChange.{PreparedChange}
 use Rattle.coll_state.specs.Rows.{Document, Table, Rows, AreSound}
 use Rattle.coll_state.specs.Changes.{Tables, put_table, drop_table, or_fresh}
 use Rattle.coll_state.specs.ChangeAll.{changed_by, AreThere, HasId, HaveIds}
-use Rattle.coll_state.specs.PreparedChange.{change_of, changes_of, HasRoom, RoomFor, LosesOne, Keeps, AllKeep, AllLoseOne}
+use Rattle.coll_state.specs.PreparedChange.{change_of, changes_of, HasRoom, one_of, changes_in, RoomFor, Gains, Loses, AllGain, AllLose}
 use Rattle.coll_state.specs.Stock.{Stock}
 use Rattle.coll_state.specs.Tables.{Stocks, tables_in, stock_at}
 use Rattle.coll_state.proofs.Named.{get_there, updated, written}
 use Rattle.coll_state.proofs.Sound.{kept_put, kept_there, drop_keeps}
 
--- what a collection that was written leaves of room
-keeps_itself : (o : Option Stock) → Keeps o o
-keeps_itself None = tt
-keeps_itself (Some s) = omega arith
+one_same : (k q : NsName) → same_ns k q ≡ true → one_of k q ≡ 1
+one_same k q s = ap (λ (b : Bool). if b then 1 else 0) s
 
-loses_itself : (o : Option Stock) → LosesOne o o
+one_other : (k q : NsName) → same_ns k q ≡ false → one_of k q ≡ 0
+one_other k q s = ap (λ (b : Bool). if b then 1 else 0) s
+
+-- what a collection that was written leaves of room
+gains_itself : (o : Option Stock) → Gains 0 o o
+gains_itself None = refl
+gains_itself (Some s) = omega arith
+
+loses_itself : (o : Option Stock) → Loses 0 o o
 loses_itself None = tt
 loses_itself (Some s) = omega arith
 
-pub keep_written : (m n : Stocks) (k : NsName) (old w : Stock) → stock_at m k ≡ Some old → UpdatesBy namespace_cmp (namespace_cmp k) m n (Some w) → old.room ≤ w.room → AllKeep m n
-keep_written m n k old w e up r q = by (cases_Bool (same_ns k q))
+pub gain_written : (m n : Stocks) (k : NsName) (old w : Stock) → stock_at m k ≡ Some old → UpdatesBy namespace_cmp (namespace_cmp k) m n (Some w) → old.room + 1 ≤ w.room → AllGain k m n
+gain_written m n k old w e up r q = by (cases_Bool (same_ns k q))
   where
-    by : (same_ns k q ≡ true) ⊎ (same_ns k q ≡ false) → Keeps (stock_at m q) (stock_at n q)
+    by : (same_ns k q ≡ true) ⊎ (same_ns k q ≡ false) → Gains (one_of k q) (stock_at m q) (stock_at n q)
     by (inl s) =
         let old_is : stock_at m q ≡ Some old = subst (λ (z : NsName). stock_at m z ≡ Some old) (ns_is k q s) e in
         let new_is : stock_at n q ≡ Some w = up.0 q ∙ ap (λ (b : Bool). cond b (Some w) (stock_at m q)) s in
-        subst (λ (o : Option Stock). Keeps o (stock_at n q)) (sym old_is) (subst (λ (o : Option Stock). Keeps (Some old) o) (sym new_is) r)
-    by (inr s) = subst (λ (o : Option Stock). Keeps (stock_at m q) o) (sym (up.0 q ∙ ap (λ (b : Bool). cond b (Some w) (stock_at m q)) s)) (keeps_itself (stock_at m q))
+        subst (λ (i : ℕ). Gains i (stock_at m q) (stock_at n q)) (sym (one_same k q s))
+        (subst (λ (o : Option Stock). Gains 1 o (stock_at n q)) (sym old_is) (subst (λ (o : Option Stock). Gains 1 (Some old) o) (sym new_is) r))
+    by (inr s) =
+        subst (λ (i : ℕ). Gains i (stock_at m q) (stock_at n q)) (sym (one_other k q s))
+        (subst (λ (o : Option Stock). Gains 0 (stock_at m q) o) (sym (up.0 q ∙ ap (λ (b : Bool). cond b (Some w) (stock_at m q)) s)) (gains_itself (stock_at m q)))
 
-pub lose_written : (m n : Stocks) (k : NsName) (old w : Stock) → stock_at m k ≡ Some old → UpdatesBy namespace_cmp (namespace_cmp k) m n (Some w) → old.room ≤ w.room + 1 → AllLoseOne m n
+pub lose_written : (m n : Stocks) (k : NsName) (old w : Stock) → stock_at m k ≡ Some old → UpdatesBy namespace_cmp (namespace_cmp k) m n (Some w) → old.room ≤ w.room + 1 → AllLose k m n
 lose_written m n k old w e up r q = by (cases_Bool (same_ns k q))
   where
-    by : (same_ns k q ≡ true) ⊎ (same_ns k q ≡ false) → LosesOne (stock_at m q) (stock_at n q)
+    by : (same_ns k q ≡ true) ⊎ (same_ns k q ≡ false) → Loses (one_of k q) (stock_at m q) (stock_at n q)
     by (inl s) =
         let old_is : stock_at m q ≡ Some old = subst (λ (z : NsName). stock_at m z ≡ Some old) (ns_is k q s) e in
         let new_is : stock_at n q ≡ Some w = up.0 q ∙ ap (λ (b : Bool). cond b (Some w) (stock_at m q)) s in
-        subst (λ (o : Option Stock). LosesOne o (stock_at n q)) (sym old_is) (subst (λ (o : Option Stock). LosesOne (Some old) o) (sym new_is) r)
-    by (inr s) = subst (λ (o : Option Stock). LosesOne (stock_at m q) o) (sym (up.0 q ∙ ap (λ (b : Bool). cond b (Some w) (stock_at m q)) s)) (loses_itself (stock_at m q))
+        subst (λ (i : ℕ). Loses i (stock_at m q) (stock_at n q)) (sym (one_same k q s))
+        (subst (λ (o : Option Stock). Loses 1 o (stock_at n q)) (sym old_is) (subst (λ (o : Option Stock). Loses 1 (Some old) o) (sym new_is) r))
+    by (inr s) =
+        subst (λ (i : ℕ). Loses i (stock_at m q) (stock_at n q)) (sym (one_other k q s))
+        (subst (λ (o : Option Stock). Loses 0 (stock_at m q) o) (sym (up.0 q ∙ ap (λ (b : Bool). cond b (Some w) (stock_at m q)) s)) (loses_itself (stock_at m q)))
 
-pub room_written : (m n : Stocks) (k : NsName) (old w : Stock) (room : ℕ) → stock_at m k ≡ Some old → UpdatesBy namespace_cmp (namespace_cmp k) m n (Some w) → room ≤ w.room → HasRoom room (stock_at n k)
-room_written m n k old w room e up r = subst (HasRoom room) (sym up.1) r
+has_gained : (room one : ℕ) (o u : Option Stock) → HasRoom room o → Gains one o u → HasRoom (room + one) u
+has_gained room one None None h k = omega (arith, h, k)
+has_gained room one None (Some t) h k = absurd k
+has_gained room one (Some s) None h k = absurd k
+has_gained room one (Some s) (Some t) h k = omega (arith, h, k)
 
-has_kept : (room : ℕ) (o u : Option Stock) → HasRoom room o → Keeps o u → HasRoom room u
-has_kept room None None h k = absurd h
-has_kept room None (Some t) h k = absurd h
-has_kept room (Some s) None h k = absurd k
-has_kept room (Some s) (Some t) h k = omega arith
+has_lost : (room one : ℕ) (o u : Option Stock) → HasRoom (one + room) o → Loses one o u → HasRoom room u
+has_lost room one None None h k = omega (arith, h)
+has_lost room one None (Some t) h k = absurd k
+has_lost room one (Some s) None h k = absurd k
+has_lost room one (Some s) (Some t) h k = omega (arith, h, k)
 
-has_lost : (room : ℕ) (o u : Option Stock) → HasRoom (suc room) o → LosesOne o u → HasRoom room u
-has_lost room None None h k = absurd h
-has_lost room None (Some t) h k = absurd h
-has_lost room (Some s) None h k = absurd k
-has_lost room (Some s) (Some t) h k = omega arith
+-- for no change there is room
+pub room_nothing : (ps : List PreparedChange) (m : Stocks) → RoomFor (take zero ps) m
+room_nothing ps m q = subst (λ (i : ℕ). HasRoom i (stock_at m q)) (sym (none ps)) (by (stock_at m q))
+  where
+    none : (ps : List PreparedChange) → changes_in q (take zero ps) ≡ 0
+    none [] = refl
+    none (p ∷ ps) = refl
 
-pub room_kept : (room : ℕ) (ps : List PreparedChange) (m n : Stocks) → AllKeep m n → RoomFor room ps m → RoomFor room ps n
-room_kept room [] m n k h = tt
-room_kept room (p ∷ ps) m n k h = (has_kept room (stock_at m p.ns) (stock_at n p.ns) h.0 (k p.ns), room_kept room ps m n k h.1)
-
-pub room_lost : (room : ℕ) (ps : List PreparedChange) (m n : Stocks) → AllLoseOne m n → RoomFor (suc room) ps m → RoomFor room ps n
-room_lost room [] m n k h = tt
-room_lost room (p ∷ ps) m n k h = (has_lost room (stock_at m p.ns) (stock_at n p.ns) h.0 (k p.ns), room_lost room ps m n k h.1)
-
-has_one : (room : ℕ) (o : Option Stock) → HasRoom (suc room) o → HasRoom 1 o
-has_one room None h = absurd h
-has_one room (Some s) h = omega arith
-
-pub room_now : (p : PreparedChange) (ps : List PreparedChange) (m : Stocks) → RoomFor (length (p ∷ ps)) (p ∷ ps) m → HasRoom 1 (stock_at m p.ns)
-room_now p ps m h = has_one (length ps) (stock_at m p.ns) h.0
-
-pub room_later : (p : PreparedChange) (ps : List PreparedChange) (m n : Stocks) → AllLoseOne m n → RoomFor (length (p ∷ ps)) (p ∷ ps) m → RoomFor (length ps) ps n
-room_later p ps m n k h = room_lost (length ps) ps m n k h.1
+    by : (o : Option Stock) → HasRoom 0 o
+    by None = refl
+    by (Some s) = omega arith
 
 -- one more of a list has room
-pub room_next : (room i : ℕ) (ps : List PreparedChange) (p : PreparedChange) (m : Stocks) → i < length ps → p ≡ slice_index_or ps i p → RoomFor room (take i ps) m → HasRoom room (stock_at m p.ns) → RoomFor room (take (i + 1) ps) m
-room_next room i ps p m l e h r = subst (λ (n : ℕ). RoomFor room (take n ps) m) {x = suc i} (omega arith) (at i ps l e h)
+pub room_next : (i : ℕ) (ps : List PreparedChange) (p : PreparedChange) (m n : Stocks) → i < length ps → p ≡ slice_index_or ps i p → RoomFor (take i ps) m → AllGain p.ns m n → RoomFor (take (i + 1) ps) n
+room_next i ps p m n l e h k q =
+    subst (λ (j : ℕ). HasRoom (changes_in q (take j ps)) (stock_at n q)) {x = suc i} (omega arith)
+    (subst (λ (c : ℕ). HasRoom c (stock_at n q)) (sym (more i ps l e)) (has_gained (changes_in q (take i ps)) (one_of p.ns q) (stock_at m q) (stock_at n q) (h q) (k q)))
   where
-    at : (i : ℕ) (ps : List PreparedChange) → i < length ps → p ≡ slice_index_or ps i p → RoomFor room (take i ps) m → RoomFor room (take (suc i) ps) m
-    at i [] l e h = absurd (omega arith)
-    at zero (q ∷ ps) l e h = (subst (λ (z : PreparedChange). HasRoom room (stock_at m z.ns)) e r, none ps)
-      where
-        none : (ps : List PreparedChange) → RoomFor room (take zero ps) m
-        none [] = tt
-        none (q ∷ ps) = tt
-    at (suc i) (q ∷ ps) l e h = (h.0, at i ps (omega arith) e h.1)
+    first : (ps : List PreparedChange) (c : ℕ) → c + changes_in q (take zero ps) ≡ 0 + c
+    first [] c = omega arith
+    first (s ∷ ps) c = omega arith
+
+    more : (i : ℕ) (ps : List PreparedChange) → i < length ps → p ≡ slice_index_or ps i p → changes_in q (take (suc i) ps) ≡ changes_in q (take i ps) + one_of p.ns q
+    more i [] l e = absurd (omega (arith, l))
+    more zero (r ∷ ps) l e = ap (λ (z : PreparedChange). one_of z.ns q + changes_in q (take zero ps)) (sym e) ∙ first ps (one_of p.ns q)
+    more (suc i) (r ∷ ps) l e = omega (arith, more i ps (omega (arith, l)) e)
+
+pub room_now : (p : PreparedChange) (ps : List PreparedChange) (m : Stocks) → RoomFor (p ∷ ps) m → HasRoom 1 (stock_at m p.ns)
+room_now p ps m h = by (stock_at m p.ns) (h p.ns)
+  where
+    by : (o : Option Stock) → HasRoom (one_of p.ns p.ns + changes_in p.ns ps) o → HasRoom 1 o
+    by None k = absurd (omega (arith, k, one_same p.ns p.ns (ns_refl p.ns)))
+    by (Some s) k = omega (arith, k, one_same p.ns p.ns (ns_refl p.ns))
+
+pub room_later : (p : PreparedChange) (ps : List PreparedChange) (m n : Stocks) → AllLose p.ns m n → RoomFor (p ∷ ps) m → RoomFor ps n
+room_later p ps m n k h q = has_lost (changes_in q ps) (one_of p.ns q) (stock_at m q) (stock_at n q) (h q) (k q)
 
 pub there_at : (i : ℕ) (ps : List PreparedChange) (p : PreparedChange) (ts : Tables) → i < length ps → p ≡ slice_index_or ps i p → AreThere (changes_of ps) ts → map.contains_key ts p.ns ≡ true
 there_at i [] p ts l e h = absurd (omega arith)
@@ -103,18 +118,7 @@ pub take_whole : (ps : List PreparedChange) → take (length ps) ps ≡ ps
 take_whole [] = refl
 take_whole (p ∷ ps) = ap (λ (z : List PreparedChange). p ∷ z) (take_whole ps)
 
-pub room_nothing : (room : ℕ) (ps : List PreparedChange) (m : Stocks) → RoomFor room (take zero ps) m
-room_nothing room [] m = tt
-room_nothing room (q ∷ ps) m = tt
-
 -- a change that was made
-pub there_of : (room : ℕ) (o : Option Stock) → HasRoom room o → o ≡ None → ⊥
-there_of room None h e = h
-there_of room (Some s) h e = cc
-
-pub room_of : (room : ℕ) (o : Option Stock) (old : Stock) → HasRoom room o → o ≡ Some old → room ≤ old.room
-room_of room o old h e = subst (HasRoom room) e h
-
 pub put_is : (m n : Stocks) (count : ℕ) (k : NsName) (old w : Stock) (i : Key) (d : Document) → stock_at m k ≡ Some old → UpdatesBy namespace_cmp (namespace_cmp k) m n (Some w) → w.table ≡ put_table i d old.table →
     ◌≡◌ {A = Rows} (record { tables = tables_in n; count = count + 1 }) (changed_by k i (Some d) (record { tables = tables_in m; count = count }))
 put_is m n count k old w i d e up t = λ j. record {

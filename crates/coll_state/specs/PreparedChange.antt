@@ -1,6 +1,7 @@
 -- Changes that were made ready, and the room that there is for them.
-use Rattle.std.specs.Prelude.{⊤, ℕ, ◌+◌, ◌≤◌, List, [], ◌∷◌, map, Option, Some, None}
+use Rattle.std.specs.Prelude.{⊤, ◌≡◌, ℕ, ◌+◌, ◌≤◌, List, [], ◌∷◌, map, Option, Some, None, if◌then◌else◌}
 use Rattle.bson_value.specs.declared.namespace.NsName.{NsName}
+use Rattle.state_model.specs.Keys.{same_ns}
 use Rattle.coll_state.specs.declared.change.Change.{Change}
 use Rattle.coll_state.specs.declared.prepared_change.PreparedChange.{PreparedChange}
 use Rattle.coll_state.specs.Stock.{Stock}
@@ -12,31 +13,42 @@ change_of p = record { ns = p.ns; id = p.id; doc = p.document }
 abbrev pub changes_of : List PreparedChange → List Change
 changes_of ps = map change_of ps
 
--- the collection is there, and has room for so many documents more
+-- the collection has room for so many documents; for none also where it isn't there
 abbrev pub HasRoom : ℕ → Option Stock → Type 0
-HasRoom n None = ⊥
+HasRoom n None = n ≡ 0
 HasRoom n (Some s) = n ≤ s.room
 
-abbrev pub RoomFor : ℕ → List PreparedChange → Stocks → Type 0
-RoomFor n [] m = ⊤
-RoomFor n (p ∷ ps) m = HasRoom n (stock_at m p.ns) × RoomFor n ps m
+-- one where both are the same collection
+abbrev pub one_of : NsName → NsName → ℕ
+one_of k q = if same_ns k q then 1 else 0
 
--- the collection is there as before, with room for one less at least
-abbrev pub LosesOne : Option Stock → Option Stock → Type 0
-LosesOne None None = ⊤
-LosesOne (Some s) (Some t) = s.room ≤ t.room + 1
-LosesOne None (Some t) = ⊥
-LosesOne (Some s) None = ⊥
+-- how many changes are of a collection
+abbrev pub changes_in : NsName → List PreparedChange → ℕ
+changes_in q [] = 0
+changes_in q (p ∷ ps) = one_of p.ns q + changes_in q ps
 
--- or without a loss
-abbrev pub Keeps : Option Stock → Option Stock → Type 0
-Keeps None None = ⊤
-Keeps (Some s) (Some t) = s.room ≤ t.room
-Keeps None (Some t) = ⊥
-Keeps (Some s) None = ⊥
+-- each collection has room for the changes of it
+abbrev pub RoomFor : List PreparedChange → Stocks → Type 0
+RoomFor ps m = (q : NsName) → HasRoom (changes_in q ps) (stock_at m q)
 
-abbrev pub AllKeep : Stocks → Stocks → Type 0
-AllKeep m n = (q : NsName) → Keeps (stock_at m q) (stock_at n q)
+-- so much more room, where the collection is there
+abbrev pub Gains : ℕ → Option Stock → Option Stock → Type 0
+Gains n None None = n ≡ 0
+Gains n (Some s) (Some t) = s.room + n ≤ t.room
+Gains n None (Some t) = ⊥
+Gains n (Some s) None = ⊥
 
-abbrev pub AllLoseOne : Stocks → Stocks → Type 0
-AllLoseOne m n = (q : NsName) → LosesOne (stock_at m q) (stock_at n q)
+-- so much less room at most
+abbrev pub Loses : ℕ → Option Stock → Option Stock → Type 0
+Loses n None None = ⊤
+Loses n (Some s) (Some t) = s.room ≤ t.room + n
+Loses n None (Some t) = ⊥
+Loses n (Some s) None = ⊥
+
+-- one collection has room for another document, and no other has less
+abbrev pub AllGain : NsName → Stocks → Stocks → Type 0
+AllGain k m n = (q : NsName) → Gains (one_of k q) (stock_at m q) (stock_at n q)
+
+-- one collection has room for one document less at most, and no other has less
+abbrev pub AllLose : NsName → Stocks → Stocks → Type 0
+AllLose k m n = (q : NsName) → Loses (one_of k q) (stock_at m q) (stock_at n q)

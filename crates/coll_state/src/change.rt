@@ -4,12 +4,12 @@ ghost use Rattle.std.specs.FinMap as map;
 ghost use Rattle.bson_encode.specs.Key.{key_of};
 ghost use Rattle.coll_state.specs.Rows.{AreSound};
 ghost use Rattle.coll_state.specs.ChangeAll.{change_one, change_all, HasId, HaveIds, AreThere};
-ghost use Rattle.coll_state.specs.PreparedChange.{change_of, changes_of, HasRoom, RoomFor, AllKeep, AllLoseOne};
+ghost use Rattle.coll_state.specs.PreparedChange.{change_of, changes_of, HasRoom, RoomFor, AllGain, AllLose};
 ghost use Rattle.coll_state.specs.Tables.{tables_in, stock_at};
 
 use crate::kept::KeptDocument;
+use crate::keys::key_of;
 use crate::prepared_change::PreparedChange;
-use crate::state::key_of;
 use crate::tables::Tables;
 use bson_value::{Doc, List, NsName, Value};
 use std::alloc::{AllocError, Global};
@@ -61,16 +61,36 @@ pub(crate) fn prepare(
     Ok(prepared)
 }
 
-// Room for so many documents more in a collection that is there.
-fn reserve_one(tables: &mut Tables, ns: &NsName, more: usize) -> Result<(), AllocError>
+// Room for another document in a collection that is there.
+fn reserve_one(tables: &mut Tables, ns: &NsName) -> Result<(), AllocError>
     requires { map.contains_key (tables_in tables.old) ns.now ≡ true }
     ensures tables { tables_in tables.new ≡ tables_in tables.old }
-    ensures keeps { AllKeep tables.old tables.new }
-    ensures ok { OnOk result (HasRoom more (stock_at tables.new ns.now)) }
+    ensures ok { OnOk result (AllGain ns.now tables.old tables.new) }
 {
     match tables.get_mut(ns) {
-        Some(collection) => collection.reserve(more),
+        Some(collection) => {
+            collection.reserve_another()?;
+            Ok(())
+        }
         None => unreachable!(),
+    }
+}
+
+// Gives up the room in a collection.
+fn give_up_one(tables: &mut Tables, ns: &NsName)
+    ensures { tables_in tables.new ≡ tables_in tables.old }
+{
+    if let Some(collection) = tables.get_mut(ns) {
+        collection.give_up_room();
+    }
+}
+
+// The same of each collection that changes, so that room that wasn't taken is counted once.
+fn give_up_room(tables: &mut Tables, changes: &[PreparedChange])
+    ensures { tables_in tables.new ≡ tables_in tables.old }
+{
+    for change in changes {
+        give_up_one(tables, &change.ns);
     }
 }
 
@@ -80,7 +100,7 @@ fn apply_one(tables: &mut Tables, count: u128, change: PreparedChange) -> u128
     requires sound { AreSound (record { tables = tables_in tables.old; count = count }) }
     requires count { count < 2 ^ 127 }
     ensures rows { (record { tables = tables_in tables.new; count = result }) ≡ change_one (change_of change) (record { tables = tables_in tables.old; count = count }) }
-    ensures keeps { AllLoseOne tables.old tables.new }
+    ensures keeps { AllLose change.ns tables.old tables.new }
 {
     let PreparedChange {
         ns,
@@ -103,22 +123,22 @@ fn apply_one(tables: &mut Tables, count: u128, change: PreparedChange) -> u128
     }
 }
 
-/// Room in its collection for as many documents as there are changes, for each of them.
+/// Room in each collection for as many documents as there are changes of it.
 pub(crate) fn reserve(tables: &mut Tables, changes: &[PreparedChange]) -> Result<(), AllocError>
     requires { AreThere (changes_of changes.now) (tables_in tables.old) }
     ensures tables { tables_in tables.new ≡ tables_in tables.old }
-    ensures ok { OnOk result (RoomFor (length changes.now) changes.now tables.new) }
+    ensures ok { OnOk result (RoomFor changes.now tables.new) }
 {
-    let more = changes.len();
+    give_up_room(tables, changes);
     for change in changes {
-        reserve_one(tables, &change.ns, more)?;
+        reserve_one(tables, &change.ns)?;
     }
     Ok(())
 }
 
 /// Makes the changes, where there is room for them, and counts the documents that are put.
 pub(crate) fn apply(tables: &mut Tables, count: u128, changes: Vec<PreparedChange>) -> u128
-    requires room { RoomFor (length changes.items) changes.items tables.old }
+    requires room { RoomFor changes.items tables.old }
     requires sound { AreSound (record { tables = tables_in tables.old; count = count }) }
     requires count { count + length changes.items < 2 ^ 127 }
     ensures rows { (record { tables = tables_in tables.new; count = result }) ≡ change_all (changes_of changes.items) (record { tables = tables_in tables.old; count = count }) }

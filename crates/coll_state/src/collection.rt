@@ -13,8 +13,9 @@ ghost use Rattle.std.specs.List.Sorted.{IsSearchInRange};
 
 use crate::documents::Documents;
 use crate::kept::KeptDocument;
+use crate::keys::short_key;
 use crate::number_hints::{NumberHints, sum_of};
-use bson_encode::{cmp_key, type_of};
+use bson_encode::cmp_key;
 use bson_value::Value;
 use byte_order::order;
 use containers::{List as JList, SmallBytes};
@@ -65,7 +66,7 @@ impl Model for Collection {
 
     ghost view = { λ c. record {
       table = table_in c.options c.indexes c.incarnation c.next c.records.items;
-      room = min c.numbers.room c.records.room;
+      room = min c.numbers.room c.records.end_room;
     } };
 
     ghost invariant = { λ c. AreParts c.indexes c.next c.numbers.items c.records.items };
@@ -119,31 +120,6 @@ fn number_in(taken: Option<NumberedKey>) -> Option<u128>
     }
 }
 
-// A byte in front of at most 12.
-fn tagged(tag: u8, bytes: &[u8]) -> SmallBytes
-    requires { length bytes.now ≤ 12 }
-    ensures { result ≡ tag ∷ bytes.now }
-{
-    let mut key = [0; 13];
-    key[0] = tag;
-    key[1..bytes.len() + 1].copy_from_slice(bytes);
-    SmallBytes::inline(&key[..bytes.len() + 1])
-}
-
-// The key of an `_id` of a number, but for a decimal, or of an identifier. It takes no memory.
-fn short_key(id: &Value) -> Option<SmallBytes>
-    ensures { IfSome result (λ key. key ≡ key_of id.now) }
-{
-    let tag = type_of(id);
-    match id {
-        Value::Int(n) => Some(tagged(tag, &n.to_le_bytes())),
-        Value::Long(n) => Some(tagged(tag, &n.to_le_bytes())),
-        Value::Double(bytes) => Some(tagged(tag, bytes)),
-        Value::Oid(bytes) => Some(tagged(tag, bytes)),
-        _ => None,
-    }
-}
-
 impl Collection {
     /// An empty one. It takes no memory.
     pub(crate) fn new(alloc: Global, options: Tree, incarnation: u128) -> Collection
@@ -180,11 +156,11 @@ impl Collection {
         }
     }
 
-    // The number that is guessed for a key, where it is the one.
-    fn guessed_number(&self, key: &SmallBytes) -> Option<u128>
+    // The number that is noted for a key, where it is the one.
+    fn hinted_number(&self, key: &SmallBytes) -> Option<u128>
         ensures { IfSome result (λ no. option_map (λ r. r.no) (row_of self.now.table.rows key.now) ≡ Some no) }
     {
-        let no = self.hints.guess(sum_of(key.as_slice()))?;
+        let no = self.hints.hint(sum_of(key.as_slice()))?;
         let record = self
             .records
             .find_near(rank_of(no), |record| record.no.cmp(&no))?;
@@ -208,7 +184,7 @@ impl Collection {
     fn number_of_key(&self, key: &SmallBytes) -> Option<u128>
         ensures { result ≡ option_map (λ r. r.no) (row_of self.now.table.rows key.now) }
     {
-        match self.guessed_number(key) {
+        match self.hinted_number(key) {
             Some(no) => Some(no),
             None => self.sought_number(key),
         }
@@ -294,14 +270,35 @@ impl Collection {
         self.indexes = indexes;
     }
 
-    /// Room for so many more documents.
+    /// Room for so many documents, counted from here.
     pub(crate) fn reserve(&mut self, more: usize) -> Result<(), AllocError>
         ensures table { self.new.table ≡ self.old.table }
         ensures room { self.old.room ≤ self.new.room }
         ensures ok { OnOk result (more ≤ self.new.room) }
     {
         self.numbers.reserve(more)?;
-        self.records.reserve(more)
+        self.records.reserve_end(more)
+    }
+
+    /// Room for one document more than there is room for.
+    pub(crate) fn reserve_another(&mut self) -> Result<(), AllocError>
+        ensures table { self.new.table ≡ self.old.table }
+        ensures room { self.old.room ≤ self.new.room }
+        ensures ok { OnOk result (self.old.room + 1 ≤ self.new.room) }
+    {
+        let room = self.numbers.room().min(self.records.end_room());
+        match room.checked_add(1) {
+            Some(more) => self.reserve(more),
+            None => Err(AllocError),
+        }
+    }
+
+    /// Gives up the room. Its memory stays, for that of the next call.
+    pub(crate) fn give_up_room(&mut self)
+        ensures { self.new.table ≡ self.old.table }
+    {
+        self.numbers.give_up_room();
+        self.records.give_up_room();
     }
 
     // The document in the place of the one under this number.
@@ -340,7 +337,7 @@ impl Collection {
             None => {
                 self.records.push(Record { no, document });
                 self.next = no + 1;
-                self.hints.note(sum, no);
+                self.hints.note_new(sum, no);
             }
         }
     }
@@ -353,7 +350,7 @@ impl Collection {
         ensures table { self.new.table ≡ put_table key document self.old.table }
         ensures room { self.old.room ≤ self.new.room + 1 }
     {
-        match self.guessed_number(&key) {
+        match self.hinted_number(&key) {
             Some(no) => self.replace(no, document),
             None => self.put_sought(key, document),
         }
@@ -387,6 +384,7 @@ impl Collection {
         ) {
             Some(no) => {
                 let _ = self.records.remove(|record| record.no.cmp(&no));
+                self.hints.note_removal();
                 true
             }
             None => false,

@@ -11,7 +11,7 @@ use bson_check::{DecodeFault, MAX_DOCUMENT_BYTES, MAX_LEVELS, faultless_if_spell
 use bson_core::decode;
 use bson_encode::encode;
 use bson_spelling::is_spelling;
-use bson_value::Doc;
+use bson_value::{Doc, type_byte};
 use bson_view::{DocumentBytes, Elem, Held, one_document};
 use std::alloc::{AllocError, Global};
 use std::marker::Model;
@@ -93,10 +93,11 @@ fn is_key_of(key: &[u8], id: &Elem<'_>) -> bool
 {
     id.spells();
     match id.tag {
-        1 | 7 | 16 | 18 => match key.split_first() {
-            Some((tag, rest)) => *tag == id.tag && rest == id.value,
-            None => false,
-        },
+        type_byte::DOUBLE | type_byte::OBJECT_ID | type_byte::INT32 | type_byte::INT64 =>
+            match key.split_first() {
+                Some((tag, rest)) => *tag == id.tag && rest == id.value,
+                None => false,
+            },
         _ => false,
     }
 }

@@ -6,6 +6,7 @@ mod change;
 mod collection;
 mod documents;
 mod kept;
+mod keys;
 mod laws;
 mod number_hints;
 mod prepared_change;

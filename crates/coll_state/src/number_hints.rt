@@ -1,10 +1,10 @@
-//! Guesses of the record number of a key.
+//! Hints at the record number of a key.
 ghost use Rattle.std.specs.Prelude.{◌<◌};
 
 use std::alloc::Global;
 
-/// Collections of fewer documents have no guesses: a search among so few takes no longer.
-const LEAST_COUNT: u128 = 64;
+/// Collections of fewer documents have no hints: a search among so few takes no longer.
+const LEAST_COUNT: usize = 64;
 
 const FIRST_SLOTS: usize = 256;
 
@@ -30,19 +30,22 @@ fn mark_of(sum: u64) -> u32
     (sum >> 56) as u32 % 256
 }
 
-/// The record numbers that were last noted under the sums of keys. It is two to four slots of four bytes for each document. A slot
-/// serves many keys, and a number that it holds may have gone: a guess is looked at before it is believed, so contracts see nothing
-/// of it.
+/// The record numbers that were last noted under the sums of keys. It is two to four slots of four bytes for each of the most
+/// documents that the collection has had at a time. A slot serves many keys, and a number that it holds may have gone: a hint
+/// is looked at before it is believed, so contracts see nothing of it.
 #[derive(Drop)]
 pub(crate) struct NumberHints {
     slots: Vec<u32>,
+    // The documents of the collection.
+    count: usize,
 }
 
 impl NumberHints {
-    /// No guesses. It takes no memory.
+    /// No hints. It takes no memory.
     pub(crate) fn new(alloc: Global) -> NumberHints {
         NumberHints {
             slots: Vec::new(alloc),
+            count: 0,
         }
     }
 
@@ -52,7 +55,7 @@ impl NumberHints {
     }
 
     /// The number that may be that of a key with this sum.
-    pub(crate) fn guess(&self, sum: u64) -> Option<u128> {
+    pub(crate) fn hint(&self, sum: u64) -> Option<u128> {
         let noted = *self.slots.as_slice().get(self.slot(sum))?;
         if noted != 0 && noted % 256 == mark_of(sum) {
             Some(u128::from(noted / 256))
@@ -72,15 +75,23 @@ impl NumberHints {
 
     /// Notes the number of a key with this sum.
     pub(crate) fn note(&mut self, sum: u64, no: u128) {
-        if no < LEAST_COUNT || NUMBERS_END <= no {
-            return;
-        }
-        if 2 * no > self.slots.len() as u128 {
-            self.widen();
-        }
         let slot = self.slot(sum);
-        if slot < self.slots.len() {
+        if no < NUMBERS_END && slot < self.slots.len() {
             self.slots[slot] = no as u32 * 256 + mark_of(sum);
         }
+    }
+
+    /// The same of a document that came.
+    pub(crate) fn note_new(&mut self, sum: u64, no: u128) {
+        self.count = self.count.saturating_add(1);
+        if LEAST_COUNT <= self.count && self.slots.len() / 2 < self.count {
+            self.widen();
+        }
+        self.note(sum, no);
+    }
+
+    /// A document has gone.
+    pub(crate) fn note_removal(&mut self) {
+        self.count = self.count.saturating_sub(1);
     }
 }

@@ -17,10 +17,9 @@ use crate::change::{self, Change};
 use crate::collection::Collection;
 use crate::documents::Documents;
 use crate::kept::KeptDocument;
+use crate::keys::{key_in, key_in_bytes};
 use crate::tables::{self, Tables};
 use crate::walks::{After, Namespaces};
-use bson_encode::put_key;
-use bson_spelling::put_id_key;
 use bson_value::{Doc, List, NsName, Value};
 use bson_view::{DocumentBytes, Held};
 use containers::{List as JList, SmallBytes};
@@ -52,44 +51,6 @@ impl Model for State {
     ghost view = { λ s. record { tables = tables_in s.tables; count = s.count } };
 
     ghost invariant = { λ s. AreSound (record { tables = tables_in s.tables; count = s.count }) };
-}
-
-// Most keys are shorter.
-const USUAL_LEN: usize = 32;
-
-// The key of a document's `_id`.
-fn key_in(alloc: Global, doc: &Doc) -> Result<SmallBytes, AllocError>
-    requires { is_some (id_of doc.now) ≡ true }
-    ensures { IfOk result (λ key. key ≡ key_in (id_of doc.now)) }
-{
-    match doc.get("_id") {
-        Some(id) => key_of(alloc, id),
-        None => unreachable!(),
-    }
-}
-
-// The key of an `_id`.
-pub(crate) fn key_of(alloc: Global, id: &Value) -> Result<SmallBytes, AllocError>
-    ensures { IfOk result (λ key. key ≡ key_of id.now) }
-{
-    let mut key = Vec::with_capacity(alloc, USUAL_LEN)?;
-    put_key(&mut key, id)?;
-    SmallBytes::of(alloc, key.as_slice())
-}
-
-// The key of the `_id` of the document that the bytes spell.
-fn key_in_bytes(alloc: Global, bytes: &DocumentBytes) -> Result<SmallBytes, AllocError>
-    requires { is_some (id_of (kept_document bytes.now)) ≡ true }
-    ensures { IfOk result (λ key. key ≡ key_in (id_of (kept_document bytes.now))) }
-{
-    match bytes.view().field("_id") {
-        Some(id) => {
-            let mut key = Vec::with_capacity(alloc, USUAL_LEN)?;
-            put_id_key(alloc, &mut key, &id)?;
-            SmallBytes::of(alloc, key.as_slice())
-        }
-        None => unreachable!(),
-    }
 }
 
 impl State {
@@ -272,9 +233,9 @@ impl State {
         self.put_first_kept(alloc, ns, key, document)
     }
 
-    /// The same of the document that these bytes spell, which are kept as they lie where they are its
-    /// spelling and it is short. No document is built for that, but for one that is kept otherwise, and the
-    /// value of an `_id` that holds others.
+    /// The same of the document that these bytes spell, in the place of the one of its `_id` or behind all others. They are
+    /// kept as they lie where they are its spelling and it is short. No document is built for that, but for one that is kept
+    /// otherwise, and the value of an `_id` that holds others.
     pub fn put_bytes(
         &mut self,
         alloc: Global,

@@ -11,7 +11,7 @@ ghost use Rattle.document_lines.specs.Json.{json_of};
 use crate::digits::write_digits;
 use crate::strings::put_quoted;
 use base64::engine::general_purpose::STANDARD;
-use bson_value::Ts;
+use bson_value::{Ts, type_byte};
 use bson_view::{Elem, ValueRef};
 use itoa::Buffer;
 use std::alloc::{AllocError, Global};
@@ -180,7 +180,7 @@ pub fn put_leaf(alloc: Global, out: &mut Vec<u8>, elem: &Elem<'_>) -> Result<(),
     requires { IsLeaf (out-Value (elem_value elem.now)) }
     ensures { OnOk result (out.new.items ≡ out.old.items ++ json_of (elem_value elem.now)) }
 {
-    if elem.tag == 2 {
+    if elem.tag == type_byte::STRING {
         return put_text(out, elem);
     }
     elem.spells();

@@ -224,7 +224,7 @@ insert_holds r n id d (Some t) e h a = put_into r n (key_of id) d (Some t) e h (
 over_holds : (r : Rows) (n : NsName) (id : Value) (d : Fields) (i : Item) (t : Table) (w : Row) → map.get r.tables n ≡ Some t → IndexesHold r → Allowed t.rows (map.entries t.indexes) (key_of id) d → IndexesHold (rows_of_changes (unless_same w.document d (put_change n id d i ∷ [])) r)
 over_holds r n id d i t w e h a = unless_holds w.document d (put_change n id d i ∷ []) r h (put_into r n (key_of id) d (Some t) e h (put_holds t (key_of id) d a.unique a.parallels))
 
-document_holds : (f : Form) (in_txn : Bool) (c : DocumentCommand) (r : Rows) → document_refusal in_txn c r ≡ None → IndexesHold r → IndexesHold (rows_of_changes (document_changes f c r) r)
+pub document_holds : (f : Form) (in_txn : Bool) (c : DocumentCommand) (r : Rows) → document_refusal in_txn c r ≡ None → IndexesHold r → IndexesHold (rows_of_changes (document_changes f c r) r)
 document_holds f in_txn (Insert n d) r e h = under (id_of d) refl
   where
     under : (o : Option Value) → id_of d ≡ o → IndexesHold (rows_of_changes (under_id (λ id. insert_changes (is_there n r) n id (id_first d)) o) r)

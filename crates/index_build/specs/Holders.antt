@@ -1,6 +1,6 @@
 -- Who has the keys of a unique index: those that came last, before those that stand in the order of the keys.
 use Rattle.std.specs.Prelude.{ℕ, zero, suc, ◌≡◌, List, [], ◌∷◌, map as each, Bool, true, false, Option, Some, None, option_map, if◌then◌else◌, refl}
-use Rattle.std.specs.Coded.{Coded, code_by, coded×}
+use Rattle.std.specs.Coded.{Coded, code_by, coded×, coded_ℕ, coded_list}
 use Rattle.std.specs.Ordering.{is_lt}
 use Rattle.std.specs.FinMap as map
 use Rattle.state_model.specs.Keys.{Key, key_cmp, same_key}
@@ -20,6 +20,14 @@ holder_key h = h.key
 
 abbrev pub holder_code : Coded Holder
 holder_code = code_by (Key × Key) (coded× bytes_code bytes_code) (λ h. (h.key, h.id)) (λ p. record { key = p.0; id = p.1 }) (λ _. refl)
+
+-- the newest holders, and how many more can be put without taking memory
+pub record NewestHolders : Type 0 where
+  pub items : List Holder
+  pub room : ℕ
+
+abbrev pub newest_code : Coded NewestHolders
+newest_code = code_by (List Holder × ℕ) (coded× (coded_list holder_code) coded_ℕ) (λ n. (n.items, n.room)) (λ p. record { items = p.0; room = p.1 }) (λ _. refl)
 
 abbrev pub id_in : Option Holder → Option Key
 id_in o = option_map (λ (h : Holder). h.id) o

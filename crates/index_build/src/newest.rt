@@ -26,13 +26,11 @@ impl Model for Newest {
     ghost use Rattle.std.specs.Vec.{vec_capacity};
     ghost use Rattle.state_model.specs.Keys.{key_cmp};
     ghost use Rattle.coll_state.specs.Stock.{Rise};
-    ghost use Rattle.sorted_list.specs.Order.{Shelf, shelf_code};
-    ghost use Rattle.index_build.specs.declared.holder.Holder.{Holder};
-    ghost use Rattle.index_build.specs.Holders.{holder_key, holder_code};
+    ghost use Rattle.index_build.specs.Holders.{holder_key, NewestHolders, newest_code};
 
-    ghost Value = { Shelf Holder };
+    ghost Value = { NewestHolders };
 
-    ghost coded = { shelf_code holder_code };
+    ghost coded = { newest_code };
 
     ghost view = { λ n. record {
       items = n.holders.items;

@@ -3,3 +3,4 @@ pub mod Chunks
 pub mod Ends
 pub mod Edits
 pub mod Near
+pub mod Rooms

@@ -1,12 +1,11 @@
 -- An element of a chunk, as one of the whole list, and as the one that is sought.
-use Rattle.std.proofs.Common.{◌≡◌, ℕ, zero, suc, ◌+◌, ◌-◌, ◌<◌, List, [], ◌∷◌, ◌++◌, length, refl, sym, ap, ◌∙◌, subst, arith, Some}
+use Rattle.std.proofs.Common.{◌≡◌, ℕ, zero, suc, ◌<◌, List, [], ◌∷◌, ◌++◌, length, refl, sym, ap, ◌∙◌, arith, Some}
 use Rattle.std.specs.Prelude.{slice_index_or, slice_get, slice_set}
 use Rattle.std.specs.declared.cmp.Ordering.{Ordering}
 use Rattle.std.specs.declared.cmp.Ordering.TheVariants.{Equal}
 use Rattle.sorted_list.specs.Order.{IsOrdered, IsFound, found, set_in}
-use Rattle.sorted_list.specs.Chunks.{joined, chunk_len, last_of, HasRoom, StandsAt}
+use Rattle.sorted_list.specs.Chunks.{joined, StandsAt}
 use Rattle.sorted_list.proofs.Order.{found_at, set_at}
-use Rattle.sorted_list.proofs.Ends.{last_is}
 use Rattle.sorted_list.proofs.Edits.{some_is, none_some}
 
 module _ {T : Type 0} where
@@ -74,13 +73,3 @@ module _ {T : Type 0} where
   chunk_within [] n i x s = absurd (none_some s.0 s.1.0)
   chunk_within (c ∷ cs) zero i x s = omega arith
   chunk_within (c ∷ cs) (suc n) i x s = let l = chunk_within cs n i x s in omega (arith, l)
-
-  -- the last chunk, where it has room
-  pub room_some : (cs : List (List T)) → HasRoom cs → 0 < length cs
-  room_some [] r = absurd (none_some r.0 r.1.0)
-  room_some (c ∷ cs) r = omega arith
-
-  pub room_last : (cs : List (List T)) (n : ℕ) (d : List T) → HasRoom cs → n ≡ length cs - 1 → slice_get cs n ≡ Some d → length d + 1 < chunk_len
-  room_last cs n d r e g =
-      let last : last_of cs ≡ Some d = sym (last_is cs) ∙ (ap (λ (m : ℕ). slice_get cs m) (sym e) ∙ g) in
-      subst (λ (z : List T). length z + 1 < chunk_len) (some_is r.0 d (sym r.1.0 ∙ last)) r.1.1

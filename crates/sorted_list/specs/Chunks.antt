@@ -1,5 +1,5 @@
 -- A list in chunks, and the chunk to which a search leads.
-use Rattle.std.specs.Prelude.{⊤, ◌≡◌, ◌<◌, ◌+◌, ℕ, suc, List, [], ◌∷◌, ◌++◌, Bool, true, false, if◌then◌else◌, length, slice_get, Option, Some, None}
+use Rattle.std.specs.Prelude.{⊤, ◌≡◌, ◌<◌, ℕ, suc, List, [], ◌∷◌, ◌++◌, Bool, true, false, if◌then◌else◌, length, slice_get, Option, Some, None}
 use Rattle.std.specs.Ordering.{is_lt}
 use Rattle.std.specs.declared.cmp.Ordering.{Ordering}
 use Rattle.std.specs.declared.cmp.Ordering.TheVariants.{Less, Greater}
@@ -30,10 +30,6 @@ last_of (x ∷ (y ∷ ys)) = last_of (y ∷ ys)
 -- an element stands at this place of this chunk
 abbrev pub StandsAt : {T : Type 0} → T → List (List T) → ℕ → ℕ → Type 0
 StandsAt {T} x cs n i = (c : List T) × ((slice_get cs n ≡ Some c) × (slice_get c i ≡ Some x))
-
--- the last chunk takes one more element, and isn't full then
-abbrev pub HasRoom : {T : Type 0} → List (List T) → Type 0
-HasRoom {T} cs = (c : List T) × ((last_of cs ≡ Some c) × (length c + 1 < chunk_len))
 
 abbrev pub side : Bool → Ordering
 side true = Less

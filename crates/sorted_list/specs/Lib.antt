@@ -1,3 +1,4 @@
 pub mod Order
 pub mod Chunks
+pub mod Rooms
 pub mod Compare

@@ -5,13 +5,14 @@ use Rattle.std.specs.Ordering.{is_eq, is_lt}
 use Rattle.std.specs.declared.cmp.Ordering.{Ordering}
 use Rattle.std.specs.declared.cmp.Ordering.TheVariants.{Less, Equal, Greater}
 
--- elements, and how many more there is room for
+-- elements, how many more may be put in their places, and how many may be pushed behind all others
 pub record Shelf (T : Type 0) : Type 0 where
   pub items : List T
   pub room : ℕ
+  pub end_room : ℕ
 
 abbrev pub shelf_code : {T : Type 0} → Coded T → Coded (Shelf T)
-shelf_code {T} t = code_by (List T × ℕ) (coded× (coded_list t) coded_ℕ) (λ s. (s.items, s.room)) (λ p. record { items = p.0; room = p.1 }) (λ _. refl)
+shelf_code {T} t = code_by (List T × (ℕ × ℕ)) (coded× (coded_list t) (coded× coded_ℕ coded_ℕ)) (λ s. (s.items, (s.room, s.end_room))) (λ p. record { items = p.0; room = p.1.0; end_room = p.1.1 }) (λ _. refl)
 
 module _ {T : Type 0} (ord : T → Ordering) where
   abbrev pub AllAbove : List T → Type 0

@@ -6,6 +6,7 @@ ghost use Rattle.std.specs.List.Sorted.{IsSearchInRange};
 ghost use Rattle.std.specs.declared.cmp.Ordering.{Ordering as Order};
 ghost use Rattle.sorted_list.specs.Order.{IsOrdered, IsFound, IsGap, found, place, set_in, take_out};
 ghost use Rattle.sorted_list.specs.Chunks.{chunk_len, last_of};
+ghost use Rattle.sorted_list.specs.Rooms.{over_half};
 
 use std::alloc::{AllocError, Global};
 use std::cmp::Ordering;
@@ -14,6 +15,16 @@ use std::mem;
 
 // So many elements has a chunk room for.
 pub(crate) const CHUNK_LEN: usize = 128;
+
+// So many elements have the two parts of a full chunk each.
+const HALF_LEN: usize = 64;
+
+/// How many of so many elements stand beyond half a chunk.
+pub(crate) fn over_half(len: usize) -> u128
+    ensures { result ≡ over_half len }
+{
+    len.saturating_sub(HALF_LEN) as u128
+}
 
 /// Elements that stand together. It has room for `CHUNK_LEN` of them.
 #[derive(Drop)]
@@ -192,7 +203,7 @@ impl<T: Drop> Chunk<T> {
         ensures lower { length self.new ≡ 64 }
         ensures upper { length upper.new ≡ 64 }
     {
-        for _ in 0..64usize {
+        for _ in 0..HALF_LEN {
             self.move_last(upper);
         }
     }

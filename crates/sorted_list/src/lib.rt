@@ -5,6 +5,7 @@ mod chunk;
 mod list;
 mod parting;
 mod seats;
+mod spares;
 mod walk;
 
 pub use list::SortedList;

@@ -5,26 +5,17 @@ ghost use Rattle.std.specs.Fn.{ComputesKey};
 ghost use Rattle.std.specs.declared.cmp.Ordering.{Ordering as Order};
 ghost use Rattle.std.specs.declared.cmp.Ordering.TheVariants.{Equal};
 ghost use Rattle.sorted_list.specs.Compare.{Compares};
-ghost use Rattle.sorted_list.specs.Chunks.{HasRoom, StandsAt};
+ghost use Rattle.sorted_list.specs.Chunks.{StandsAt};
 ghost use Rattle.sorted_list.specs.Order.{IsOrdered, found, from, put_in, put_new, set_in, take_out};
 
-use crate::chunk::{CHUNK_LEN, Chunk};
+use crate::chunk::{CHUNK_LEN, Chunk, over_half};
 use crate::parting::put_at;
 use crate::seats::{chosen, seat};
+use crate::spares::{begin, keep_spares, last_len, set_aside, spares_for, spares_for_end, wanted};
 use crate::walk::Walk;
 use std::alloc::{AllocError, Global};
 use std::cmp::Ordering;
 use std::marker::Model;
-
-// Whether the last chunk takes another element.
-fn has_room<T>(chunks: &[Chunk<T>]) -> bool
-    ensures { result ≡ true → HasRoom chunks.now }
-{
-    match chunks.last() {
-        Some(chunk) => chunk.len() < PUSHED_LEN,
-        None => false,
-    }
-}
 
 // The element at this place of this chunk.
 fn item_at<T>(chunks: &[Chunk<T>], chunk: usize, place: usize) -> Option<&T>
@@ -58,7 +49,7 @@ fn is_at<T, F: Fn(&T) -> Ordering>(
 // So many elements has a chunk to which elements were only pushed.
 const PUSHED_LEN: usize = CHUNK_LEN - 1;
 
-/// Elements in an order by which a search finds them. Contracts also see how many more there is room for.
+/// Elements in an order by which a search finds them. Contracts also see how many more may be put, and how many pushed.
 ///
 /// They stand in chunks of up to 127. A search takes log n steps; to put an element in or to take one out moves at most
 /// those of a chunk, and once in some 64 times a pointer for each chunk behind it.
@@ -67,13 +58,17 @@ pub struct SortedList<T> {
     alloc: Global,
     chunks: Vec<Chunk<T>>,
     spares: Vec<Chunk<T>>,
+    // The elements that stand beyond half a chunk, of all chunks.
+    over: u128,
+    room: usize,
+    end_room: usize,
 }
 
 impl<T> Model for SortedList<T> {
-    ghost use Rattle.std.specs.Prelude.{◌+◌, ◌≤◌, length};
     ghost use Rattle.std.specs.Vec.{vec_capacity};
     ghost use Rattle.sorted_list.specs.Order.{Shelf, shelf_code};
-    ghost use Rattle.sorted_list.specs.Chunks.{joined, AreRoomy, AreEmpty};
+    ghost use Rattle.sorted_list.specs.Chunks.{joined};
+    ghost use Rattle.sorted_list.specs.Rooms.{IsStocked};
 
     ghost Value = { Shelf T };
 
@@ -81,10 +76,11 @@ impl<T> Model for SortedList<T> {
 
     ghost view = { λ s. record {
       items = joined s.chunks.items;
-      room = length s.spares.items;
+      room = s.room;
+      end_room = s.end_room;
     } };
 
-    ghost invariant = { λ s. AreRoomy s.chunks.items × AreEmpty s.spares.items × (length s.chunks.items + length s.spares.items ≤ vec_capacity s.chunks) };
+    ghost invariant = { λ s. IsStocked s.chunks.items s.spares.items (vec_capacity s.chunks) (vec_capacity s.spares) s.over s.room s.end_room };
 }
 
 impl<T> SortedList<T> {
@@ -96,6 +92,9 @@ impl<T> SortedList<T> {
             alloc,
             chunks: Vec::new(alloc),
             spares: Vec::new(alloc),
+            over: 0,
+            room: 0,
+            end_room: 0,
         }
     }
 
@@ -154,17 +153,35 @@ impl<T> SortedList<T> {
 }
 
 impl<T: Drop> SortedList<T> {
-    /// Room for so many more.
-    #[tactic(auto, using(crate::proofs::Edits::empty_push))]
+    /// Room for so many puts, counted from here.
     pub fn reserve(&mut self, more: usize) -> Result<(), AllocError>
         ensures items { self.new.items ≡ self.old.items }
         ensures room { self.old.room ≤ self.new.room }
+        ensures end_room { self.new.end_room ≡ self.old.end_room }
         ensures ok { OnOk result (more ≤ self.new.room) }
     {
-        self.chunks.reserve(more)?;
-        for _ in self.spares.len()..more {
-            self.spares.push(Chunk::new(self.alloc)?)?;
+        if more <= self.room {
+            return Ok(());
         }
+        let count = spares_for(more, wanted(self.chunks.as_slice(), self.over));
+        keep_spares(self.alloc, &mut self.chunks, &mut self.spares, count)?;
+        self.room = more;
+        Ok(())
+    }
+
+    /// Room for so many pushes, counted from here.
+    pub fn reserve_end(&mut self, more: usize) -> Result<(), AllocError>
+        ensures items { self.new.items ≡ self.old.items }
+        ensures room { self.new.room ≡ self.old.room }
+        ensures end_room { self.old.end_room ≤ self.new.end_room }
+        ensures ok { OnOk result (more ≤ self.new.end_room) }
+    {
+        if more <= self.end_room {
+            return Ok(());
+        }
+        let count = spares_for_end(more, last_len(self.chunks.as_slice()));
+        keep_spares(self.alloc, &mut self.chunks, &mut self.spares, count)?;
+        self.end_room = more;
         Ok(())
     }
 
@@ -173,6 +190,7 @@ impl<T: Drop> SortedList<T> {
         requires { F.IsAlwaysCallable order }
         ensures items { (ord : T → Order) → ComputesKey F.FnMut ord order → IsOrdered ord self.old.items → self.new.items ≡ set_in ord item self.old.items }
         ensures room { self.new.room ≡ self.old.room }
+        ensures end_room { self.new.end_room ≡ self.old.end_room }
     {
         let at = seat(self.chunks.as_slice(), &order);
         if at < self.chunks.len() {
@@ -186,6 +204,7 @@ impl<T: Drop> SortedList<T> {
         requires { F.IsAlwaysCallable order }
         ensures items { (ord : T → Order) → ComputesKey F.FnMut ord order → IsOrdered ord self.old.items → self.new.items ≡ set_in ord item self.old.items }
         ensures room { self.new.room ≡ self.old.room }
+        ensures end_room { self.new.end_room ≡ self.old.end_room }
     {
         let chunk = rank / PUSHED_LEN;
         let place = rank % PUSHED_LEN;
@@ -196,20 +215,28 @@ impl<T: Drop> SortedList<T> {
         }
     }
 
-    // The element behind all others, in a chunk of its own.
-    fn begin(&mut self, item: T)
-        requires room { 1 ≤ self.old.room }
-        ensures items { self.new.items ≡ self.old.items ++ item ∷ [] }
-        ensures room { self.old.room ≡ self.new.room + 1 }
+    /// How many puts there is room for.
+    pub fn room(&self) -> usize
+        ensures { result ≡ self.now.room }
     {
-        let Some(mut chunk) = self.spares.pop() else {
-            unreachable!();
-        };
-        chunk.push(item);
-        match self.chunks.push(chunk) {
-            Ok(_) => {}
-            Err(_) => unreachable!(),
-        }
+        self.room
+    }
+
+    /// How many pushes there is room for.
+    pub fn end_room(&self) -> usize
+        ensures { result ≡ self.now.end_room }
+    {
+        self.end_room
+    }
+
+    /// Gives up the room. Its memory stays, for that of the next call.
+    pub fn give_up_room(&mut self)
+        ensures items { self.new.items ≡ self.old.items }
+        ensures room { self.new.room ≡ 0 }
+        ensures end_room { self.new.end_room ≡ 0 }
+    {
+        self.room = 0;
+        self.end_room = 0;
     }
 
     /// The element in its place by this order: in front of the first that isn't below it.
@@ -220,7 +247,9 @@ impl<T: Drop> SortedList<T> {
         ensures room { self.old.room ≤ self.new.room + 1 }
     {
         if self.chunks.is_empty() {
-            self.begin(item);
+            begin(&mut self.chunks, &mut self.spares, item);
+            self.room -= 1;
+            self.end_room = 0;
             return;
         }
         let beside = |other: &T| -> Ordering
@@ -229,7 +258,16 @@ impl<T: Drop> SortedList<T> {
         { order(other, &item) };
         let at = chosen(self.chunks.as_slice(), &beside);
         let place = self.chunks[at].place(beside);
-        put_at(&mut self.chunks, &mut self.spares, at, place, item);
+        put_at(
+            &mut self.chunks,
+            &mut self.spares,
+            &mut self.over,
+            at,
+            place,
+            item,
+        );
+        self.room -= 1;
+        self.end_room = 0;
     }
 
     /// The same where no element is its equal by this order. Where one is, nothing changes, and what `look` sees in it is given.
@@ -247,7 +285,9 @@ impl<T: Drop> SortedList<T> {
         ensures room { self.old.room ≤ self.new.room + 1 }
     {
         if self.chunks.is_empty() {
-            self.begin(item);
+            begin(&mut self.chunks, &mut self.spares, item);
+            self.room -= 1;
+            self.end_room = 0;
             return None;
         }
         let beside = |other: &T| -> Ordering
@@ -258,7 +298,16 @@ impl<T: Drop> SortedList<T> {
         match self.chunks[at].search(beside) {
             Ok(place) => Some(look(&self.chunks[at].as_slice()[place])),
             Err(place) => {
-                put_at(&mut self.chunks, &mut self.spares, at, place, item);
+                put_at(
+                    &mut self.chunks,
+                    &mut self.spares,
+                    &mut self.over,
+                    at,
+                    place,
+                    item,
+                );
+                self.room -= 1;
+                self.end_room = 0;
                 None
             }
         }
@@ -266,16 +315,22 @@ impl<T: Drop> SortedList<T> {
 
     /// The element behind all others.
     pub fn push(&mut self, item: T)
-        requires { 1 ≤ self.old.room }
+        requires { 1 ≤ self.old.end_room }
         ensures items { self.new.items ≡ self.old.items ++ item ∷ [] }
-        ensures room { self.old.room ≤ self.new.room + 1 }
+        ensures end_room { self.old.end_room ≡ self.new.end_room + 1 }
     {
-        if !has_room(self.chunks.as_slice()) {
-            self.begin(item);
+        if last_len(self.chunks.as_slice()) == PUSHED_LEN {
+            begin(&mut self.chunks, &mut self.spares, item);
+            self.end_room -= 1;
+            self.room = 0;
             return;
         }
         let at = self.chunks.len() - 1;
+        let len = self.chunks[at].len();
+        self.over = self.over + over_half(len + 1) - over_half(len);
         self.chunks[at].push(item);
+        self.end_room -= 1;
+        self.room = 0;
     }
 
     /// Takes out what is sought.
@@ -284,14 +339,18 @@ impl<T: Drop> SortedList<T> {
         ensures value { (ord : T → Order) → ComputesKey F.FnMut ord order → IsOrdered ord self.old.items → result ≡ found ord self.old.items }
         ensures items { (ord : T → Order) → ComputesKey F.FnMut ord order → IsOrdered ord self.old.items → self.new.items ≡ take_out ord self.old.items }
         ensures room { self.new.room ≡ self.old.room }
+        ensures end_room { self.new.end_room ≡ self.old.end_room }
     {
         let at = seat(self.chunks.as_slice(), &order);
         if self.chunks.len() <= at {
             return None;
         }
+        let over = over_half(self.chunks[at].len());
         let item = self.chunks[at].remove(order);
-        if self.chunks[at].len() == 0 {
-            let _ = self.chunks.remove(at);
+        let len = self.chunks[at].len();
+        self.over = self.over + over_half(len) - over;
+        if len == 0 {
+            set_aside(&mut self.chunks, &mut self.spares, at);
         }
         item
     }

@@ -1,5 +1,5 @@
 //! The chunk to which a search leads.
-ghost use Rattle.std.specs.Prelude.{◌≡◌, ◌<◌, ◌≤◌, length};
+ghost use Rattle.std.specs.Prelude.{◌≡◌, ◌^◌, ◌<◌, ◌≤◌, length};
 ghost use Rattle.std.specs.Fn.{ComputesKey};
 ghost use Rattle.std.specs.declared.cmp.Ordering.{Ordering as Order};
 ghost use Rattle.sorted_list.specs.Order.{IsOrdered};
@@ -39,6 +39,7 @@ pub(crate) fn chosen<T, F: Fn(&T) -> Ordering>(chunks: &[Chunk<T>], order: &F) -
     requires some { 0 < length chunks.now }
     requires call { F.IsAlwaysCallable order.now }
     ensures within { result < length chunks.now }
+    ensures few { length chunks.now < 2 ^ 64 }
     ensures near { (ord : T → Order) → ComputesKey F.FnMut ord order.now → AreRoomy chunks.now → IsOrdered ord (joined chunks.now) → result ≡ near ord chunks.now }
 {
     let at = seat(chunks, order);

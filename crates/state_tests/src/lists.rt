@@ -68,12 +68,26 @@ fn what_is_taken_out_is_gone(rt: HostRuntime) -> Result<(), Fail> {
 fn what_is_pushed_stands_last(rt: HostRuntime) -> Result<(), Fail> {
     let mut list = SortedList::new(rt.alloc());
     for number in 0..COUNT {
-        list.reserve(1)?;
+        list.reserve_end(1)?;
         list.push(number);
     }
     list.set(7, |number| number.cmp(&7));
     assert_eq!(rt; steps(list.walk(), 0, 1), Some(1000));
     assert_eq!(rt; steps(Walk::none(), 0, 1), Some(0));
+    Ok(())
+}
+
+#[test]
+fn room_is_made_and_given_up(rt: HostRuntime) -> Result<(), Fail> {
+    let mut list = filled(rt.alloc())?;
+    list.reserve(1000)?;
+    list.reserve_end(1000)?;
+    assert_eq!(rt; (list.room(), list.end_room()), (1000, 1000));
+    list.push(COUNT);
+    assert_eq!(rt; list.end_room(), 999);
+    list.give_up_room();
+    assert_eq!(rt; (list.room(), list.end_room()), (0, 0));
+    assert_eq!(rt; steps(list.walk(), 0, 1), Some(1001));
     Ok(())
 }
 
@@ -97,7 +111,7 @@ fn what_is_there_is_not_put_again(rt: HostRuntime) -> Result<(), Fail> {
 fn what_is_replaced_keeps_its_place(rt: HostRuntime) -> Result<(), Fail> {
     let mut list = SortedList::new(rt.alloc());
     for i in 0..COUNT {
-        list.reserve(1)?;
+        list.reserve_end(1)?;
         list.push(i * 2);
     }
     for i in 0..COUNT {

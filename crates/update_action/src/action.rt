@@ -33,7 +33,7 @@ fn delta(alloc: Global, id: &Value, form: Form, touches: List<Touch>) -> Result<
 /// than the document after the update, else `Delta` with the touches in the order of the fields that spell them.
 /// In the first form their names are those of digits for indexes, none is of a new field, and a Set of the whole array
 /// stands for a length. The touches are those of one accepted update. It takes the time and the memory of writing
-/// the delta, and of reading it again but for one touch of few levels in the second form.
+/// the delta; and of reading it again, but where it is one touch of few levels in the second form.
 pub fn update_action(
     alloc: Global,
     id: &Value,

@@ -16,7 +16,7 @@ loop-change-init c =
 pub apply_one-count-requires-clause-room : goal.apply_one-count-requires-clause-room
 apply_one-count-requires-clause-room c =
     let rest = c.in-Some.ensures.steps.0 in
-    room_now c.in-Some.change c.next.new.self.rest.items c.loop-change.tables (subst (λ (ps : List PreparedChange). RoomFor (length ps) ps c.loop-change.tables) rest c.loop-change.invariant.2)
+    room_now c.in-Some.change c.next.new.self.rest.items c.loop-change.tables (subst (λ (ps : List PreparedChange). RoomFor ps c.loop-change.tables) rest c.loop-change.invariant.2)
 
 pub apply_one-count-requires-clause-sound : goal.apply_one-count-requires-clause-sound
 apply_one-count-requires-clause-sound c = c.loop-change.invariant.1
@@ -37,7 +37,7 @@ loop-change-preserved c =
       ap (change_all (changes_of c.next.new.self.rest.items)) made ∙ before,
       subst AreSound (sym made) (change_sound c.in-Some.change.ns k c.in-Some.change.document s c.loop-change.invariant.1),
       room_later c.in-Some.change c.next.new.self.rest.items c.loop-change.tables c.apply_one-count.new.tables c.apply_one-count.ensures.keeps
-          (subst (λ (ps : List PreparedChange). RoomFor (length ps) ps c.loop-change.tables) rest c.loop-change.invariant.2),
+          (subst (λ (ps : List PreparedChange). RoomFor ps c.loop-change.tables) rest c.loop-change.invariant.2),
       omega (arith, counts, count, fewer, c.loop-change.invariant.3),
     )
 

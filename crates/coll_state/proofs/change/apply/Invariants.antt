@@ -9,5 +9,5 @@ abbrev pub invariant-loop-change : goal.invariant-loop-change
 invariant-loop-change l =
     (change_all (changes_of l.change-iterator.rest.items) (record { tables = tables_in l.tables; count = l.count }) ≡ change_all (changes_of l.fn.changes.items) (record { tables = tables_in l.fn.tables; count = l.fn.count }))
     × AreSound (record { tables = tables_in l.tables; count = l.count })
-    × RoomFor (length l.change-iterator.rest.items) l.change-iterator.rest.items l.tables
+    × RoomFor l.change-iterator.rest.items l.tables
     × (l.count + length l.change-iterator.rest.items < 2 ^ 127)

@@ -12,7 +12,7 @@ pub unreachable-requires : goal.unreachable-requires
 unreachable-requires c =
     let never = nested c.read.result _ c.read.ensures c.requires in
     elim c.in-Str.is [
-      | inl t ↦ c.if-elem-eq2.false (text_kind t.0 _ _ _ c.spells.ensures.spelled (ap value_meant (sym t.1) ∙ c.read.ensures))
+      | inl t ↦ c.if-elem-eq-STRING.false (text_kind t.0 _ _ _ c.spells.ensures.spelled (ap value_meant (sym t.1) ∙ c.read.ensures))
       | inr other ↦ elim other [
         | inl o ↦ never _ o.1 (is_object o.0)
         | inr more ↦ elim more [ inl a ↦ never _ a.1 (is_array a.0) | inr s ↦ never _ s.2 (is_scoped s.0 s.1) ]

@@ -2,7 +2,8 @@ use Rattle.std.proofs.Common.{List, ◌/◌, ◌%◌, length, ap, ◌∙◌, sub
 use Rattle.std.proofs.lemmas.List.{length-set}
 use Rattle.sorted_list.specs.Order.{Shelf}
 use Rattle.sorted_list.specs.Chunks.{StandsAt}
-use Rattle.sorted_list.proofs.Edits.{get_at, roomy_at, roomy_set}
+use Rattle.sorted_list.proofs.Rooms.{surplus_set, stocked_set}
+use Rattle.sorted_list.proofs.Edits.{get_at, roomy_at}
 use Rattle.sorted_list.proofs.Near.{chunk_within, near_set}
 use Rattle.sorted_list.proofs.list.SortedList.set_near.Goals as goal
 
@@ -13,12 +14,11 @@ invariant_of-self g c =
     let i = c.args.rank % 127 in
     let there = c.is_at.ensures c.if-is_at.true in
     let stands = subst (λ (l : List (List g.row.T.Denot)). StandsAt there.0 l n i) c.as_slice.ensures.value there.1.0 in
-    let size = roomy_at cs n c.index_mut.result.now (get_at cs n _ (chunk_within cs n i there.0 stands) c.index_mut.ensures.value) c.self.invariant.0 in
-    let same = ap length c.set_at.ensures ∙ length-set c.index_mut.result.now i c.args.item in (
-      roomy_set cs n c.set_at.new.self c.self.invariant.0 (omega (arith, size.0, same)) (omega (arith, size.1, same)),
-      c.self.invariant.1,
-      omega (arith, c.self.invariant.2, length-set cs n c.set_at.new.self),
-    )
+    let got = get_at cs n c.index_mut.result.now (chunk_within cs n i there.0 stands) c.index_mut.ensures.value in
+    let size = roomy_at cs n c.index_mut.result.now got c.self.invariant.roomy in
+    let same = ap length c.set_at.ensures ∙ length-set c.index_mut.result.now i c.args.item in
+    stocked_set cs c.self.inside.spares.items n c.index_mut.result.now c.set_at.new.self _ _ _ _ _ _ got (omega (arith, size.0, same)) (omega (arith, same))
+    (omega (arith, surplus_set cs n c.index_mut.result.now c.set_at.new.self got, c.self.invariant.over, same)) c.self.invariant
 
 pub returns-then-is_at-clause-items : goal.returns-then-is_at-clause-items
 returns-then-is_at-clause-items g c = λ ord h o.

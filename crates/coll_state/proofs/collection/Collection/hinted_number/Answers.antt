@@ -6,7 +6,7 @@ use Rattle.coll_state.specs.Rows.{row_of}
 use Rattle.coll_state.specs.Stock.{Stock, rows_in}
 use Rattle.coll_state.proofs.RowLists.{no_in}
 use Rattle.coll_state.proofs.Records.{at_no, records_ordered, found_keyed}
-use Rattle.coll_state.proofs.collection.Collection.guessed_number.Goals as goal
+use Rattle.coll_state.proofs.collection.Collection.hinted_number.Goals as goal
 
 pub returns-then-is_under : goal.returns-then-is_under
 returns-then-is_under c =
