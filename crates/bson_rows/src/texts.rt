@@ -1,20 +1,29 @@
 //! Documents of a row.
+ghost use Rattle.std.specs.Prelude.{◌≡◌, IfOk, string_bytes};
+ghost use Rattle.row_script.specs.Rows.{before_blank, behind_blank};
+ghost use Rattle.bson_rows.specs.Rows.{number_of, Spell, Write, digits_of, fault_word, kind_word, order_word};
+
 use anyhow::Result;
-use bson_check::{MAX_DOCUMENT_BYTES, MAX_LEVELS};
+use bson_check::{BsonFault, BsonKind, MAX_DOCUMENT_BYTES, MAX_LEVELS};
 use bson_core::decode;
 use bson_encode::encode;
 use bson_value::{CText, Doc};
 use row_script::{bytes, digits, number, refused, words};
 use std::alloc::Global;
+use std::cmp::Ordering;
 
 /// Two numbers.
-pub fn numbers(text: &str) -> Result<(usize, usize)> {
+pub fn numbers(text: &str) -> Result<(usize, usize)>
+    ensures { IfOk result (λ numbers. numbers ≡ (number_of (before_blank text.now), number_of (behind_blank text.now))) }
+{
     let (first, second) = words(text)?;
     Ok((number(first)?, number(second)?))
 }
 
 /// A text without zeros.
-pub fn name(alloc: Global, text: &str) -> Result<CText> {
+pub fn name(alloc: Global, text: &str) -> Result<CText>
+    ensures { IfOk result (λ name. name ≡ text.now) }
+{
     match CText::of(alloc, text)? {
         Some(name) => Ok(name),
         None => refused("a zero in a name"),
@@ -22,7 +31,9 @@ pub fn name(alloc: Global, text: &str) -> Result<CText> {
 }
 
 /// The document that bytes spell.
-pub fn document(alloc: Global, spelling: &[u8]) -> Result<Doc> {
+pub fn document(alloc: Global, spelling: &[u8]) -> Result<Doc>
+    ensures { IfOk result (λ doc. Spell spelling.now doc) }
+{
     match decode(alloc, spelling, MAX_DOCUMENT_BYTES, MAX_LEVELS) {
         Ok(doc) => Ok(doc),
         Err(_) => refused("no document"),
@@ -30,11 +41,50 @@ pub fn document(alloc: Global, spelling: &[u8]) -> Result<Doc> {
 }
 
 /// The document that the digits write.
-pub fn written(alloc: Global, text: &str) -> Result<Doc> {
+#[tactic(auto, unfolding(crate::specs::Rows::Write))]
+pub fn written(alloc: Global, text: &str) -> Result<Doc>
+    ensures { IfOk result (λ doc. Write text.now doc) }
+{
     document(alloc, &bytes(alloc, text)?)
 }
 
 /// The digits of a document.
-pub fn spelled(alloc: Global, doc: &Doc) -> Result<String> {
+pub fn spelled(alloc: Global, doc: &Doc) -> Result<String>
+    ensures { IfOk result (λ digits. string_bytes digits ≡ digits_of doc.now) }
+{
     digits(alloc, encode(alloc, doc)?.as_slice())
+}
+
+/// How one stands to another, in a word.
+pub fn order_word(order: Ordering) -> &'static str
+    ensures { result.now ≡ order_word order }
+{
+    match order {
+        Ordering::Less => "Less",
+        Ordering::Equal => "Equal",
+        Ordering::Greater => "Greater",
+    }
+}
+
+// What is wrong, in a word.
+fn kind_word(kind: BsonKind) -> &'static str
+    ensures { result.now ≡ kind_word kind }
+{
+    match kind {
+        BsonKind::Short => "Short",
+        BsonKind::Length => "Length",
+        BsonKind::Tag => "Tag",
+        BsonKind::Text => "Text",
+        BsonKind::Repeat => "Repeat",
+        BsonKind::Deep => "Deep",
+        BsonKind::Bool => "Bool",
+        BsonKind::TooLong => "TooLong",
+    }
+}
+
+/// A fault and its place.
+pub fn fault_text(alloc: Global, fault: BsonFault) -> Result<String>
+    ensures { IfOk result (λ answer. string_bytes answer ≡ fault_word fault) }
+{
+    Ok(format!(in alloc; "{} {}", kind_word(fault.kind), fault.at)?)
 }
