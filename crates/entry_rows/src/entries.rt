@@ -1,4 +1,8 @@
 //! The entries that documents are read as, and what they are written as.
+ghost use Rattle.std.specs.Prelude.{◌≡◌, ◌↔◌, Bool, IfOk, IsTrue, codes, if◌then◌else◌, string_bytes};
+ghost use Rattle.bson_value.specs.Spelling.{document_text};
+ghost use Rattle.entry_model.specs.Spelling.{entry_fields};
+
 use crate::faults::entry_fault;
 use crate::shown::put_entry;
 use crate::texts::document;
@@ -34,7 +38,10 @@ pub fn head_of(alloc: Global, json: &str) -> Result<String> {
 }
 
 // Whether the document of an entry is this one.
-fn is_written_so(alloc: Global, entry: &Entry, doc: &Doc) -> Result<String> {
+fn is_written_so(alloc: Global, entry: &Entry, doc: &Doc) -> Result<String>
+    ensures { IfOk result (λ answer. (is_so : Bool) × (IsTrue is_so ↔ (document_text (entry_fields entry.now) ≡ document_text doc.now))
+        × (string_bytes answer ≡ (if is_so then codes "yes" else codes "no"))) }
+{
     let bytes = write(alloc, entry)?;
     let wanted = encode(alloc, doc)?;
     truth(alloc, bytes.as_slice() == wanted.as_slice())

@@ -1,4 +1,7 @@
 //! Faults as texts.
+ghost use Rattle.std.specs.Prelude.{◌≡◌};
+ghost use Rattle.entry_rows.specs.Rows.{ops_fault_word, update_fault_word};
+
 use anyhow::Result;
 use entry_model::EntryFault;
 use row_script::answer;
@@ -17,7 +20,9 @@ pub fn entry_fault(alloc: Global, fault: &EntryFault) -> Result<String> {
 }
 
 /// Why a document holds no operators.
-pub fn ops_fault(fault: OpsFault) -> &'static str {
+pub fn ops_fault(fault: OpsFault) -> &'static str
+    ensures { result.now ≡ ops_fault_word fault }
+{
     match fault {
         OpsFault::NoMemory => "NoMemory",
         OpsFault::UnknownOperator => "UnknownOperator",
@@ -29,7 +34,9 @@ pub fn ops_fault(fault: OpsFault) -> &'static str {
 }
 
 /// Why a document isn't updated.
-pub fn update_fault(fault: UpdateFault) -> &'static str {
+pub fn update_fault(fault: UpdateFault) -> &'static str
+    ensures { result.now ≡ update_fault_word fault }
+{
     match fault {
         UpdateFault::NoMemory => "NoMemory",
         UpdateFault::NotViable => "NotViable",

@@ -1,4 +1,7 @@
 //! Documents from JSON, and values as JSON.
+ghost use Rattle.std.specs.Prelude.{◌≡◌, ◌++◌, IfOk, OnOk, string_bytes};
+ghost use Rattle.entry_rows.specs.Rows.{Write, document_json, value_text};
+
 use anyhow::Result;
 use bson_value::{Doc, Value};
 use extjson::{tree_of, value_of};
@@ -7,7 +10,10 @@ use row_script::refused;
 use std::alloc::Global;
 
 /// The document that the text writes.
-pub fn document(alloc: Global, text: &str) -> Result<Doc> {
+#[tactic(auto, unfolding(crate::specs::Rows::Write))]
+pub fn document(alloc: Global, text: &str) -> Result<Doc>
+    ensures { IfOk result (λ doc. Write text.now doc) }
+{
     match value_of(alloc, &parse(alloc, text)?)? {
         Value::Object(doc) => Ok(doc),
         _ => refused("no document"),
@@ -15,12 +21,17 @@ pub fn document(alloc: Global, text: &str) -> Result<Doc> {
 }
 
 /// Writes a value as JSON.
-pub fn put_value(alloc: Global, out: &mut String, value: &Value) -> Result<()> {
+#[tactic(auto, unfolding(crate::specs::Rows::value_text))]
+pub fn put_value(alloc: Global, out: &mut String, value: &Value) -> Result<()>
+    ensures { OnOk result (string_bytes out.new ≡ string_bytes out.old ++ value_text value.now) }
+{
     let text = print(alloc, &tree_of(alloc, value)?)?;
     Ok(out.push_str(text.as_str())?)
 }
 
 /// Writes a document as JSON.
-pub fn put_document(alloc: Global, out: &mut String, doc: &Doc) -> Result<()> {
+pub fn put_document(alloc: Global, out: &mut String, doc: &Doc) -> Result<()>
+    ensures { OnOk result (string_bytes out.new ≡ string_bytes out.old ++ document_json doc.now) }
+{
     put_value(alloc, out, &Value::Object(doc.copy(alloc)?))
 }

@@ -1,4 +1,7 @@
 //! Operators, updates by them, and the actions that record updates.
+ghost use Rattle.std.specs.Prelude.{◌≡◌, ◌++◌, IfOk, string_bytes};
+ghost use Rattle.entry_rows.specs.Rows.{action_text, document_json, touches_text};
+
 use crate::faults::{ops_fault, update_fault};
 use crate::shown::{put_action, put_touches};
 use crate::texts::{document, put_document};
@@ -34,7 +37,9 @@ fn outcome_of(alloc: Global, text: &str) -> Result<Result<Updated, UpdateFault>>
     outcome(alloc, &doc, &document(alloc, ops)?)
 }
 
-fn updated_text(alloc: Global, updated: &Updated) -> Result<String> {
+fn updated_text(alloc: Global, updated: &Updated) -> Result<String>
+    ensures { IfOk result (λ answer. string_bytes answer ≡ document_json updated.now.doc ++ touches_text updated.now.touches) }
+{
     let mut text = String::new(alloc);
     put_document(alloc, &mut text, &updated.doc)?;
     put_touches(alloc, &mut text, updated.touches.as_slice())?;
@@ -67,7 +72,9 @@ fn action_of(alloc: Global, form: Form, updated: &Updated) -> Result<Action> {
     Ok(update_action(alloc, id, &updated.doc, updated.touches.as_slice(), form)?)
 }
 
-fn action_text(alloc: Global, action: &Action) -> Result<String> {
+fn action_text(alloc: Global, action: &Action) -> Result<String>
+    ensures { IfOk result (λ answer. string_bytes answer ≡ action_text action.now) }
+{
     let mut text = String::new(alloc);
     put_action(alloc, &mut text, action)?;
     Ok(text)
