@@ -1,4 +1,10 @@
 //! Where a text fails, and what is printed.
+ghost use Rattle.std.specs.Prelude.{◌≡◌, ◌≤◌, IfOk, Ok, string_bytes};
+ghost use Rattle.json_tree.specs.declared.tree.Tree.{Tree as Trees};
+ghost use Rattle.json_text.specs.Print.{text_of};
+ghost use Rattle.json_text.specs.Reading.{tree_of_text};
+ghost use Rattle.json_tree.specs.Levels.{levels_of};
+
 use anyhow::Result;
 use json_text::{JsonFault, parse, print};
 use json_tree::Tree;
@@ -6,7 +12,9 @@ use row_script::{answer, number, words};
 use std::alloc::{AllocError, Global};
 
 // What a value prints as, which is read as the value again.
-fn printed(alloc: Global, tree: &Tree) -> Result<String> {
+fn printed(alloc: Global, tree: &Tree) -> Result<String>
+    ensures { levels_of tree.now ≤ 256 → IfOk result (λ t. string_bytes t ≡ text_of tree.now) }
+{
     let text = print(alloc, tree)?;
     let again = parse(alloc, text.as_str())?;
     if again.same(&tree.copy(alloc)?) {
@@ -16,11 +24,13 @@ fn printed(alloc: Global, tree: &Tree) -> Result<String> {
 }
 
 /// What a text prints as, or the place at which it fails.
-pub fn parsed(alloc: Global, text: &str) -> Result<String> {
+pub fn parsed(alloc: Global, text: &str) -> Result<String>
+    ensures { (tree : Trees) → tree_of_text text.now ≡ Ok tree → IfOk result (λ t. string_bytes t ≡ text_of tree) }
+{
     match parse(alloc, text) {
         Ok(tree) => printed(alloc, &tree),
         Err(JsonFault::Bad { at }) => Ok(format!(in alloc; "bad {at}")?),
-        Err(JsonFault::NoMemory) => answer(alloc, "no memory"),
+        Err(JsonFault::NoMemory) => Err(AllocError)?,
     }
 }
 

@@ -1,4 +1,10 @@
 //! Metadata texts.
+ghost use Rattle.std.specs.Prelude.{◌≡◌, List, IfOk, OnOk, Ok, string_bytes};
+ghost use Rattle.json_tree.specs.declared.tree.Tree.{Tree as Trees};
+ghost use Rattle.json_text.specs.Print.{text_of};
+ghost use Rattle.metadata_text.specs.Metadata.{metadata_of};
+ghost use Rattle.json_rows.specs.Rows.{metadata_array};
+
 use crate::jsons::arrays;
 use anyhow::Result;
 use bson_value::NsName;
@@ -6,26 +12,32 @@ use containers::{List as JList, Text};
 use json_text::{parse, print};
 use json_tree::Tree;
 use metadata_text::{MetaFault, metadata_of, metadata_text};
-use row_script::{answer, number, refused, words};
-use std::alloc::Global;
+use row_script::{number, refused, words};
+use std::alloc::{AllocError, Global};
 
 // The options and the definitions as one array.
-fn array(alloc: Global, options: Tree, defs: JList<Tree>) -> Result<Tree> {
+fn array(alloc: Global, options: Tree, defs: JList<Tree>) -> Result<Tree>
+    ensures { IfOk result (λ array. array ≡ metadata_array options defs) }
+{
     let mut trees = JList::new(alloc);
     trees.push(options)?;
     trees.push(Tree::Items(defs))?;
     Ok(Tree::Items(trees))
 }
 
-fn fault_text(alloc: Global, fault: MetaFault) -> Result<String> {
+fn fault_text(alloc: Global, fault: MetaFault) -> Result<String>
+    ensures { OnOk result (fault ≡ MetaFault.NoMemory → ⊥) }
+{
     match fault {
         MetaFault::Bad { at } => Ok(format!(in alloc; "bad {at}")?),
-        MetaFault::NoMemory => answer(alloc, "no memory"),
+        MetaFault::NoMemory => Err(AllocError)?,
     }
 }
 
 /// The options and definitions of a metadata text, or the place at which it is none.
-pub fn read(alloc: Global, text: &str) -> Result<String> {
+pub fn read(alloc: Global, text: &str) -> Result<String>
+    ensures { (options : Trees) (defs : List Trees) → metadata_of text.now ≡ Ok (options, defs) → IfOk result (λ t. string_bytes t ≡ text_of (metadata_array options defs)) }
+{
     match metadata_of(alloc, text) {
         Ok((options, defs)) => {
             let array = array(alloc, options, defs)?;
