@@ -1,6 +1,6 @@
 -- Transactions: the size of their entry, and what they make of a store.
-use Rattle.std.proofs.Common.{◌≡◌, ℕ, suc, ◌+◌, ◌<◌, ◌≤◌, ◌^◌, List, [], ◌∷◌, length, map as each, Bool, true, false, arith, refl, sym, ap, ◌∙◌, subst, Option, Some, None, Ok, Err}
-use Rattle.std.specs.Prelude.{nat_lt, codes}
+use Rattle.std.proofs.Common.{◌≡◌, ℕ, suc, ◌+◌, ◌<◌, ◌≤◌, ◌^◌, List, [], ◌∷◌, length, map as each, Bool, true, false, arith, refl, sym, ap, ◌∙◌, subst, Option, Some, None, Result, Ok, Err}
+use Rattle.std.specs.Prelude.{IfOk, codes, is_err, nat_lt}
 use Rattle.std.proofs.lemmas.Bool.{lt-ltb, le-ltb}
 use Rattle.bson_value.specs.declared.value.Ts.{Ts}
 use Rattle.bson_value.specs.declared.value.Value.{Value, Array}
@@ -18,9 +18,10 @@ use Rattle.entry_model.specs.declared.entry.Action.TheVariants as actions
 use Rattle.entry_model.specs.Spelling.{Body, command_body, body_at, body_of, item_value, entry_fields}
 use Rattle.schedule_model.specs.declared.command.Command.TheVariants.{Txn}
 use Rattle.schedule_model.specs.declared.command.DocumentCommand.{DocumentCommand}
+use Rattle.schedule_model.specs.declared.refused.Refused.{Refused}
 use Rattle.schedule_model.specs.declared.refused.Refused.TheVariants.{TooLarge}
 use Rattle.transactions.specs.declared.transaction.Transaction.{Transaction}
-use Rattle.transactions.specs.Transactions.{IsGood, AreGood, ChangesAreWrites, write_by, write_of}
+use Rattle.transactions.specs.Transactions.{IsGood, AreGood, AreKeptBehind, ChangesAreWrites, write_by, write_of}
 use Rattle.history_model.specs.Entries.{Item, Group, Content, database, entry_with, item_entry, entry_at, entry_bytes, no_ts, size_of, content_size}
 use Rattle.history_model.specs.Entries as entries
 use Rattle.history_model.specs.Indexes.{IndexesHold}
@@ -30,8 +31,10 @@ use Rattle.history_model.specs.Commands.{RecordedWrite, changes_together, effect
 use Rattle.store_log.specs.Logged.{Logged, next_ts, logged}
 use Rattle.store_core.specs.Stores.{Stored, IsSoundStore}
 use Rattle.kept_indexes.specs.Kept.{KeptCollections, AreKept}
-use Rattle.store_core.specs.Applying.{stage_in}
-use Rattle.store_core.specs.Together.{Trial, IsTogether, MakesTogether, group_effect}
+use Rattle.transaction_indexes.specs.Following.{OthersStay, AreForgotten}
+use Rattle.store_core.specs.Applying.{Makes, stage_in}
+use Rattle.store_core.specs.Together.{Trial, IsTogether, MakesTogether, AreKeptAfter, group_effect, rows_behind, rows_changed}
+use Rattle.store_core.specs.declared.fault.StoreFault.{StoreFault}
 use Rattle.store_core.specs.declared.transaction.Group.{Group as Made}
 use Rattle.store_core.proofs.Bytes.{entry_text}
 use Rattle.store_core.proofs.Good.{AreGood as GoodRows, AreGoodSingles, IsGoodSingle, singles_good}
@@ -91,6 +94,15 @@ large_is ms h = ap is_too_large (group_is ms h)
 
 tried : (ds : List DocumentCommand) (s : Stored) (ms : List RecordedWrite) → changes_together s.log.form ds s.rows ≡ Ok ms → effects (Txn ds) (stage_in s) ≡ or_too_large (is_too_large (group_of ms)) (group_of ms)
 tried ds s ms e = ap grouped e
+
+no_writes : (cs : List Change) (ms : List RecordedWrite) → each write_of cs ≡ each (λ (m : RecordedWrite). m.0) ms → length cs ≡ 0 → ms ≡ []
+no_writes cs [] e l = refl
+no_writes [] (m ∷ ms) e l = cc
+no_writes (c ∷ cs) (m ∷ ms) e l = absurd (omega (arith, l))
+
+pub together_none : (ds : List DocumentCommand) (s : Stored) (t : Transaction) → Trial ds s t → length t.changes ≡ 0 → effects (Txn ds) (stage_in s) ≡ Ok []
+together_none ds s t h l =
+    tried ds s h.makes h.accepted ∙ ap (λ (ms : List RecordedWrite). or_too_large (is_too_large (group_of ms)) (group_of ms)) (no_writes t.changes h.makes h.made.writes l)
 
 pub together_made : EntrySizes → (ds : List DocumentCommand) (s : Stored) (t : Transaction) (bytes : List ℕ) (ts : Ts) → Trial ds s t → 0 < length t.changes → length t.changes < 2 ^ 64 → ts ≡ next_ts s.log.clock s.log.newest →
     bytes ≡ document_text (entry_fields (entry_with ts (database (codes "admin")) (actions.Group t.entries))) → length bytes ≤ 16793600 → IsTogether ds s (record { changes = t.changes; bytes = bytes })
@@ -170,3 +182,43 @@ changes_hold law ds s cs is h e = subst IndexesHold (sym (law cs s.rows)) (holds
 
 pub some_holds : ChangesAreWrites → (ds : List DocumentCommand) (s : Stored) (o : Option Made) (g : Made) → IndexesHold s.rows → MakesTogether ds s (Ok o) → o ≡ Some g → IndexesHold (change_all g.changes s.rows)
 some_holds law ds s o g h m e = (let t : IsTogether ds s g = subst (λ (z : Option Made). MakesTogether ds s (Ok z)) e m in changes_hold law ds s g.changes t.items h t.accepted)
+
+-- ---- the indexes behind a transaction
+
+pub kept_done : {E : Type 0} (w : Result (Result Transaction Refused) E) (a : Result Transaction Refused) (t : Transaction) (ks : KeptCollections) (r : Rows) → w ≡ Ok a → a ≡ Ok t → AreKeptBehind w ks r → AreKept ks (change_all t.changes r)
+kept_done w a t ks r v e k = subst (λ (z : Result (Result Transaction Refused) _). AreKeptBehind z ks r) (v ∙ ap (λ (z : Result Transaction Refused). Ok z) e) k
+
+pub kept_refused : {E : Type 0} (w : Result (Result Transaction Refused) E) (a : Result Transaction Refused) (x : Refused) (ks : KeptCollections) (r : Rows) → w ≡ Ok a → a ≡ Err x → AreKeptBehind w ks r → AreKept ks r
+kept_refused w a x ks r v e k = subst (λ (z : Result (Result Transaction Refused) _). AreKeptBehind z ks r) (v ∙ ap (λ (z : Result Transaction Refused). Ok z) e) k
+
+-- of what is made of them
+pub group_kept : (w : Result (Option Made) StoreFault) (t : Transaction) (ks : KeptCollections) (r : Rows) → is_err w ≡ false → IfOk w (λ (o : Option Made). rows_changed o r ≡ rows_behind t r) → AreKept ks (rows_behind t r) → AreKeptAfter rows_changed w ks r
+group_kept (Ok o) t ks r e h k = subst (AreKept ks) (sym h) k
+group_kept (Err f) t ks r e h k = cc
+
+pub group_failed : (w : Result (Option Made) StoreFault) (ks : KeptCollections) (r : Rows) → is_err w ≡ true → AreKept ks r → AreKeptAfter rows_changed w ks r
+group_failed (Ok o) ks r e k = cc
+group_failed (Err f) ks r e k = k
+
+-- indexes that are let go of
+pub kept_elsewhere : (ds : List DocumentCommand) (ks js ls : KeptCollections) (r : Rows) → AreKept ks r → OthersStay ds ks js → AreForgotten ds js ls → AreKept ls r
+kept_elsewhere ds ks js ls r h o f n hs e = (let x = f n hs e in h n hs (sym (o n x.0) ∙ x.1))
+
+pub changed_kept : (o : Option Made) (g : Made) (ks : KeptCollections) (r : Rows) → o ≡ Some g → AreKept ks (rows_changed o r) → AreKept ks (change_all g.changes r)
+changed_kept o g ks r e k = subst (λ (z : Option Made). AreKept ks (rows_changed z r)) e k
+
+pub unchanged_kept : (o : Option Made) (ks : KeptCollections) (r : Rows) → o ≡ None → AreKept ks (rows_changed o r) → AreKept ks r
+unchanged_kept o ks r e k = subst (λ (z : Option Made). AreKept ks (rows_changed z r)) e k
+
+-- ---- the store behind a transaction
+
+made_of : ChangesAreWrites → (ds : List DocumentCommand) (s : Stored) (g : Made) (new : Stored) → IsTogether ds s g → new ≡ record { rows = change_all g.changes s.rows; log = logged g.bytes s.log } → Makes (Txn ds) s 1 new
+made_of law ds s g new t e = record {
+  deeds = group_effect g.changes t.items ∷ [];
+  accepted = t.accepted;
+  number = refl;
+  made = e ∙ (λ i. record { rows = law g.changes s.rows i; log = logged (t.spelled i) s.log });
+}
+
+pub some_made : ChangesAreWrites → (ds : List DocumentCommand) (s old : Stored) (o : Option Made) (g : Made) (new : Stored) → s ≡ old → MakesTogether ds s (Ok o) → o ≡ Some g → new ≡ record { rows = change_all g.changes s.rows; log = logged g.bytes s.log } → Makes (Txn ds) old 1 new
+some_made law ds s old o g new v m e f = subst (λ (z : Stored). Makes (Txn ds) z 1 new) v (made_of law ds s g new (subst (λ (z : Option Made). MakesTogether ds s (Ok z)) e m) f)

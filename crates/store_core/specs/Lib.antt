@@ -3,3 +3,4 @@ pub mod Codes
 pub mod Applying
 pub mod Documents
 pub mod Together
+pub mod Databases

@@ -1,7 +1,8 @@
 -- What a transaction makes together.
 use Rattle.std.specs.Prelude.{◌≡◌, ◌<◌, ◌^◌, List, [], ◌∷◌, map as each, length, Option, Some, None, Result, Ok, Err}
 use Rattle.coll_state.specs.declared.change.Change.{Change}
-use Rattle.coll_state.specs.ChangeAll.{AreThere, HaveIds}
+use Rattle.coll_state.specs.ChangeAll.{AreThere, HaveIds, change_all}
+use Rattle.coll_state.specs.Rows.{Rows}
 use Rattle.schedule_model.specs.declared.command.Command.TheVariants.{Txn}
 use Rattle.schedule_model.specs.declared.command.DocumentCommand.{DocumentCommand}
 use Rattle.transactions.specs.declared.transaction.Transaction.{Transaction}
@@ -10,6 +11,7 @@ use Rattle.history_model.specs.Entries.{Item, Group, entry_bytes}
 use Rattle.history_model.specs.Stages as stages
 use Rattle.history_model.specs.Stages.{Effect}
 use Rattle.history_model.specs.Commands.{RecordedWrite, changes_together, effects}
+use Rattle.kept_indexes.specs.Kept.{KeptCollections, AreKept}
 use Rattle.store_log.specs.Logged.{next_ts}
 use Rattle.store_core.specs.Stores.{Stored}
 use Rattle.store_core.specs.Applying.{next_entry, stage_in, Refuses}
@@ -47,3 +49,17 @@ abbrev pub MakesTogether : List DocumentCommand → Stored → Result (Option Ma
 MakesTogether ds s (Ok (Some g)) = IsTogether ds s g
 MakesTogether ds s (Ok None) = effects (Txn ds) (stage_in s) ≡ Ok []
 MakesTogether ds s (Err f) = Refuses (Txn ds) s f
+
+-- the rows behind what a transaction makes
+abbrev pub rows_changed : Option Made → Rows → Rows
+rows_changed None r = r
+rows_changed (Some g) r = change_all g.changes r
+
+-- the indexes are those of the rows behind what was made, or on an error those of the rows as they are
+abbrev pub AreKeptAfter : {A E : Type 0} → (A → Rows → Rows) → Result A E → KeptCollections → Rows → Type 0
+AreKeptAfter f (Ok a) ks r = AreKept ks (f a r)
+AreKeptAfter f (Err e) ks r = AreKept ks r
+
+-- the rows behind the changes of a transaction
+abbrev pub rows_behind : Transaction → Rows → Rows
+rows_behind t r = change_all t.changes r

@@ -89,7 +89,8 @@ impl Store {
     ///
     /// The time is that of the document and of log n for n documents, and for each index of the collection of a search for each
     /// key of the document. The first insert, replacement or update in a collection with indexes builds them over all its
-    /// documents, and so does the first one behind a change of its definitions, a transaction, a rename or a drop of a database.
+    /// documents, and so does the first one behind a change of its definitions, its rename, or a transaction that names it and is
+    /// too large.
     pub fn apply(&mut self, cmd: &Command) -> Result<u32, StoreFault>
         requires { self.old.log.recorded < 4000000000 }
         ensures stage { (st : Stage) → StandsAt self.old st → AppliedAt cmd.now st result self.new }

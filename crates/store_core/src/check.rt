@@ -7,6 +7,7 @@ ghost use Rattle.store_core.specs.Applying.{CheckedAt, Checks};
 use crate::fault::StoreFault;
 use crate::store::Store;
 use bson_value::{Doc, List, NsName, Text, Value};
+use kept_indexes::KeptIndexes;
 use schedule_model::{Command, DocumentCommand};
 
 impl Store {
@@ -56,7 +57,8 @@ impl Store {
     fn check_together(&self, commands: &List<DocumentCommand>) -> Result<u32, StoreFault>
         ensures { Checks (Command.Txn commands.now) self.now result }
     {
-        match self.together(commands)? {
+        let mut indexes = KeptIndexes::new(self.alloc);
+        match self.together(&mut indexes, commands)? {
             Some(_) => Ok(1),
             None => Ok(0),
         }
@@ -130,7 +132,7 @@ impl Store {
 
     /// The number of entries that a command would record, or why it would be refused. The store stays as it is. The time is
     /// that of `apply`, but that no indexes are kept: where those of the collection aren't kept yet, each call tests a document
-    /// over all documents.
+    /// over all documents, and of a transaction builds those of all collections that it names.
     pub fn check(&self, cmd: &Command) -> Result<u32, StoreFault>
         ensures stage { (st : Stage) → StandsAt self.now st → CheckedAt cmd.now st result }
         ensures most { IfOk result (λ n. n ≤ 2) }

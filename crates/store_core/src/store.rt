@@ -22,8 +22,8 @@ pub struct Store {
     pub(crate) alloc: Global,
     pub(crate) state: State,
     pub(crate) log: Log,
-    /// The built indexes of those collections that were written to since they were last made, renamed or dropped, or their
-    /// definitions changed.
+    /// The built indexes of those collections that were written to since they were last made, renamed or dropped, their
+    /// definitions changed, or a transaction that names them was too large or found no memory.
     pub(crate) indexes: KeptIndexes,
 }
 

@@ -1,19 +1,45 @@
 //! Changes of the collections, each with the entry that records it: both are made, or without memory neither.
-ghost use Rattle.std.specs.Prelude.{◌≡◌, ◌<◌, OnOk, OnErr, is_some, true, false};
+ghost use Rattle.std.specs.Prelude.{◌≡◌, ◌<◌, List, ◌∷◌, OnOk, OnErr, is_some, true, false};
+ghost use Rattle.bson_value.specs.declared.namespace.NsName.{NsName as Name};
 ghost use Rattle.std.specs.FinMap as map;
 ghost use Rattle.state_model.specs.States.{no_options};
 ghost use Rattle.coll_state.specs.Changes.{put, remove, create, drop_ns, drop_db, rename, add_index, drop_index};
 ghost use Rattle.coll_state.specs.Kept.{is_short};
-ghost use Rattle.coll_state.specs.Rows.{id_of};
+ghost use Rattle.coll_state.specs.Rows.{Rows, id_of};
 ghost use Rattle.bson_encode.specs.Key.{key_of};
 ghost use Rattle.history_model.specs.Indexes.{IndexesHold};
+ghost use Rattle.kept_indexes.specs.Kept.{AreKept};
+ghost use Rattle.store_core.specs.Databases.{AreAmong};
 ghost use Rattle.store_log.specs.Logged.{logged};
 ghost use Rattle.store_core.specs.Applying.{with_rename};
 
 use crate::store::Store;
 use bson_value::{Bytes, Doc, NsName, Value};
+use coll_state::State;
 use json_tree::Tree;
+use kept_indexes::KeptIndexes;
 use std::alloc::AllocError;
+
+// Lets go of the indexes of a collection of the database.
+fn forget_in(indexes: &mut KeptIndexes, ns: &NsName, db: &str)
+    ensures kept { (r : Rows) → AreKept indexes.old r → AreKept indexes.new r }
+    ensures among { (rest : List Name) → AreAmong db.now indexes.old (ns.now ∷ rest) → AreAmong db.now indexes.new rest }
+{
+    if ns.db.as_str() == db {
+        indexes.forget(ns);
+    }
+}
+
+// Lets go of the indexes of all collections of a database.
+fn forget_database(indexes: &mut KeptIndexes, state: &State, db: &str)
+    requires { AreKept indexes.old state.now }
+    ensures { AreKept indexes.new (drop_db db.now state.now) }
+{
+    let mut left = state.namespaces();
+    'names: while let Some(ns) = left.next() {
+        forget_in(indexes, ns, db);
+    }
+}
 
 impl Store {
     pub(crate) fn put(&mut self, ns: &NsName, doc: Doc, bytes: Bytes) -> Result<(), AllocError>
@@ -103,7 +129,7 @@ impl Store {
         requires holds { IndexesHold (drop_db db.now self.old.rows) }
         ensures { self.new ≡ record { rows = drop_db db.now self.old.rows; log = logged bytes self.old.log } }
     {
-        self.indexes.clear();
+        forget_database(&mut self.indexes, &self.state, db);
         let _ = self.state.drop_db(db);
         self.log.add(bytes);
     }
@@ -121,7 +147,8 @@ impl Store {
         ensures ok { OnOk result (self.new ≡ record { rows = rename from.now to.now self.old.rows; log = with_rename (logged bytes self.old.log) }) }
         ensures err { OnErr result (self.new ≡ self.old) }
     {
-        self.indexes.clear();
+        self.indexes.forget(from);
+        self.indexes.forget(to);
         self.state.rename(self.alloc, from, to)?;
         self.log.add(bytes);
         self.log.note_rename();

@@ -105,7 +105,7 @@ forgotten_more cs c k ks old new w h gone others n hs e = by (same_ns k n) refl
 
 pub pass_refused : (x : Change) (ks : KeptCollections) (e : Refused) → ((r : Rows) → AreKept ks r → HasIndexes ks x.ns r → tested_by x r ≡ Some e) → Passes x ks (Some e) ks
 unfolding Passes
-pass_refused x ks e h = h
+pass_refused x ks e h = (refl, h)
 
 pub pass_follows : (x : Change) (ks ks' : KeptCollections) → StayKept ks ks' → ((r : Rows) → AreKept ks r → HasIndexes ks x.ns r → tested_by x r ≡ None) → ((r : Rows) → AreKept ks r → AreSound r → IndexesHold (change_one x r) → AreKept ks' (change_one x r)) → Passes x ks None ks'
 unfolding Passes

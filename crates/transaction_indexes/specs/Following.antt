@@ -46,9 +46,9 @@ tested_in n k (Some d) r = rows_refusal (Some (put_row 0 k d (rows_in (map.get r
 abbrev pub tested_by : Change → Rows → Option Refused
 tested_by c r = tested_in c.ns (key_of c.id) c.doc r
 
--- a change is refused by the indexes, or they follow it
+-- a change is refused by the indexes, which stay as they are, or they follow it
 unfoldable pub Passes : Change → KeptCollections → Option Refused → KeptCollections → Type 0
-Passes x old (Some e) new = (r : Rows) → AreKept old r → HasIndexes old x.ns r → tested_by x r ≡ Some e
+Passes x old (Some e) new = (new ≡ old) × ((r : Rows) → AreKept old r → HasIndexes old x.ns r → tested_by x r ≡ Some e)
 Passes x old None new =
     StayKept old new
     × ((r : Rows) → AreKept old r → HasIndexes old x.ns r → tested_by x r ≡ None)

@@ -1,3 +1,4 @@
 pub mod Shown
 pub mod Following
 pub mod Laws
+pub mod Reversal

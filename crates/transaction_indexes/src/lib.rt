@@ -3,6 +3,8 @@
 
 mod following;
 mod laws;
+mod reversal;
 
 pub use following::{forget_all, keep_all, pass};
 pub use laws::indexes_decide;
+pub use reversal::take_back;

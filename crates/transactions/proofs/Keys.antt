@@ -1,6 +1,6 @@
 -- Rows stay under the keys of their documents.
 use Rattle.std.proofs.Common.{◌≡◌, ℕ, List, [], ◌∷◌, Bool, true, false, cond, refl, sym, ap, ◌∙◌, subst, Option, Some, None}
-use Rattle.std.specs.Prelude.{map as each, if◌then◌else◌}
+use Rattle.std.specs.Prelude.{if◌then◌else◌}
 use Rattle.std.specs.FinMap as map
 use Rattle.bson_value.specs.declared.namespace.NsName.{NsName}
 use Rattle.bson_value.specs.NamespaceOrder.{namespace_cmp}
@@ -13,8 +13,7 @@ use Rattle.coll_state.specs.declared.change.Change.{Change}
 use Rattle.coll_state.specs.ChangeAll.{changed_by, change_one, HasId}
 use Rattle.coll_state.specs.Changes.{Tables, put_row, drop_row, put_table, drop_table, put_under, put, remove, or_fresh, on_found, described, under_names, describe, no_rows}
 use Rattle.coll_state.specs.Rows.{Document, Row, Rows, Table, id_of, key_in}
-use Rattle.command_refusals.specs.Keyed.{AllKeyed, AreKeyed, documents}
-use Rattle.transactions.specs.Shown.{keyed}
+use Rattle.command_refusals.specs.Keyed.{AllKeyed, AreKeyed}
 use Rattle.transactions.specs.Transactions.{ChangesKeepKeys}
 
 put_keys : (next : ℕ) (k : Key) (d : Document) (rs : List Row) → key_in (id_of d) ≡ k → AllKeyed rs → AllKeyed (put_row next k d rs)
@@ -82,14 +81,3 @@ change_keys c r i h = one_keys c r i h
 pub keep_keys : ChangesKeepKeys
 keep_keys [] r i h = h
 keep_keys (c ∷ cs) r i h = keep_keys cs (change_one c r) i.1 (one_keys c r i.0 h)
-
--- documents alone tell what stands under which key
-abbrev with_key : Document → Key × Document
-with_key d = (key_in (id_of d), d)
-
-keyed_is : (rs : List Row) → AllKeyed rs → keyed rs ≡ each with_key (documents rs)
-keyed_is [] h = refl
-keyed_is (r ∷ rs) h = λ i. (h.0 i, r.document) ∷ keyed_is rs h.1 i
-
-pub same_keyed : (rs qs : List Row) → AllKeyed rs → AllKeyed qs → documents rs ≡ documents qs → keyed rs ≡ keyed qs
-same_keyed rs qs a b e = keyed_is rs a ∙ (ap (each with_key) e ∙ sym (keyed_is qs b))

@@ -1,11 +1,9 @@
 pub mod Steps
-pub mod Refusing
-pub mod Kept
+pub mod Showing
 pub mod Keys
 pub mod Writes
-pub mod Definitions
-pub mod Filled
 pub mod Parts
 pub mod Progress
 pub mod Passing
 pub mod Looks
+pub mod Running

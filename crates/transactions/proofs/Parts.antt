@@ -1,28 +1,26 @@
 -- What is added to a part of collections leaves a part, which shows the commands what they look at.
-use Rattle.std.proofs.Common.{◌≡◌, List, [], ◌∷◌, ◌++◌, length, Bool, true, false, refl, sym, ap, ◌∙◌, subst, arith, Option, Some, None, inl, inr}
-use Rattle.std.specs.Prelude.{⊤, ◌⊎◌, ◌==◌, OnOk, Result, Ok, Err, option_map, is_some, map as each, if◌then◌else◌}
+use Rattle.std.proofs.Common.{◌≡◌, List, [], ◌∷◌, ◌++◌, length, Bool, true, false, refl, sym, ap, ◌∙◌, subst, arith, Option, Some, None}
+use Rattle.std.specs.Prelude.{⊤, OnOk, Result, Ok, Err, is_some, if◌then◌else◌}
 use Rattle.std.specs.FinMap as map
-use Rattle.std.proofs.lemmas.Bool.{eqb-true}
 use Rattle.bson_value.specs.declared.namespace.NsName.{NsName}
 use Rattle.bson_value.specs.declared.value.Value.{Value}
 use Rattle.bson_value.specs.NamespaceOrder.{namespace_cmp}
 use Rattle.bson_encode.specs.Key.{key_of}
 use Rattle.json_tree.specs.declared.tree.Tree.{Tree}
-use Rattle.state_model.specs.Keys.{Key, same_key, same_ns}
+use Rattle.state_model.specs.Keys.{Key, key_cmp, same_key, same_ns}
 use Rattle.state_model.specs.States.{no_options}
 use Rattle.state_model.proofs.Keys.{ns_is, key_is, key_refl}
 use Rattle.state_model.proofs.Maps.{ns_insert_here, ns_insert_else}
 use Rattle.coll_state.specs.Changes.{document_of, document_in, document_at, put_table, put, or_fresh, fresh_table, described, under_names, describe, no_rows}
-use Rattle.coll_state.specs.Definitions.{definition_name}
 use Rattle.coll_state.specs.Rows.{Document, Row, Rows, Table, row_of, id_of, key_in}
 use Rattle.schedule_model.specs.declared.command.DocumentCommand.{DocumentCommand}
 use Rattle.history_model.specs.Refusals.{is_there, rows_in, definitions_in, namespace_of}
 use Rattle.command_refusals.specs.Keyed.{AllKeyed, AreKeyed}
-use Rattle.transactions.specs.Shown.{id_in, keyed, ShowsIn, ShowAll}
-use Rattle.transactions.specs.Scratch.{IsPartIn, IsPart, GrowsIn, Grows, CoversIn, Covers, HasSpaces, Others, MayAdd, IsFilled, IsAdded, HasCollection, IsShown}
-use Rattle.transactions.proofs.Keys.{put_keyed_rows, describe_keys, no_keys, same_keyed}
-use Rattle.transactions.proofs.Kept.{the_table, put_document_at}
-use Rattle.transactions.proofs.Definitions.{names_again}
+use Rattle.transaction_indexes.specs.Shown.{id_in, ShowsIn}
+use Rattle.transactions.specs.Shown.{ShowAll}
+use Rattle.transactions.specs.Scratch.{GrowsIn, Grows, CoversIn, Covers, HaveNoIndexes, Others, with_collection, MayAdd, IsPart, HasCollection, IsShown}
+use Rattle.transactions.proofs.Keys.{put_keyed_rows, describe_keys, no_keys}
+use Rattle.transactions.proofs.Showing.{the_table, put_document_at}
 
 -- ---- a part shows what it covers
 
@@ -36,29 +34,17 @@ same_bool true b f g = sym (f refl)
 same_bool false true f g = g refl
 same_bool false false f g = refl
 
-shows_in : (v : Option Value) (o p : Option Table) → IsPartIn o p → CoversIn v o p → ShowsIn v o p
+shows_in : (v : Option Value) (o p : Option Table) → GrowsIn o p → CoversIn v o p → ShowsIn v o p
 shows_in v o p h c = record {
   there = same_bool (is_some o) (is_some p) h.there c.there;
-  definitions = defined o p h c;
   document = λ id e. same_option (document_in (key_of id) o) (document_in (key_of id) p) (λ d f. h.document (key_of id) d f) (λ d f. c.document id d e f);
-  documents = listed o p h c;
 }
-  where
-    defined : (x y : Option Table) → IsPartIn x y → CoversIn v x y → definitions_in x ≡ definitions_in y
-    defined None None a b = refl
-    defined None (Some t) a b = (let f = b.there refl in cc)
-    defined (Some s) y a b = a.definitions refl
-
-    listed : (x y : Option Table) → IsPartIn x y → CoversIn v x y → (definitions_in y ≡ []) ⊎ (keyed (rows_in x) ≡ keyed (rows_in y))
-    listed None None a b = inl refl
-    listed None (Some t) a b = (let f = b.there refl in cc)
-    listed (Some s) y a b = a.documents refl
 
 abbrev pub AllCovered : List DocumentCommand → Rows → Rows → Type 0
 AllCovered [] s r = ⊤
 AllCovered (c ∷ cs) s r = Covers c s r × AllCovered cs s r
 
-pub all_shown : (cs : List DocumentCommand) (s r : Rows) → IsPart s r → AllCovered cs s r → ShowAll cs s r
+pub all_shown : (cs : List DocumentCommand) (s r : Rows) → Grows s r → AllCovered cs s r → ShowAll cs s r
 all_shown [] s r h a = tt
 all_shown (c ∷ cs) s r h a = (shows_in (id_in c) (map.get s.tables (namespace_of c)) (map.get r.tables (namespace_of c)) (h (namespace_of c)) a.0, all_shown cs s r h a.1)
 
@@ -76,31 +62,30 @@ all_grown (c ∷ cs) s t r g a = (covers_grown (id_in c) (map.get s.tables (name
 pub record IsShowing (cs : List DocumentCommand) (s r : Rows) : Type 0 where
   pub part : IsPart s r
   pub covered : AllCovered cs s r
-  pub keyed : AreKeyed s
 
-pub nothing_part : (r : Rows) → IsPart no_rows r
-nothing_part r n = subst (λ (o : Option Table). IsPartIn o (map.get r.tables n)) (sym (map.get-empty {X = Table} namespace_cmp n)) (record {
-  there = λ e. cc;
-  definitions = λ e. cc;
-  document = λ k d e. cc;
-  documents = λ e. cc;
+nothing_grows : (r : Rows) → Grows no_rows r
+nothing_grows r n = subst (λ (o : Option Table). GrowsIn o (map.get r.tables n)) (sym (map.get-empty {X = Table} namespace_cmp n)) (record { there = λ e. cc; document = λ k d e. cc })
+
+nothing_plain : HaveNoIndexes no_rows
+nothing_plain n = ap definitions_in (map.get-empty {X = Table} namespace_cmp n)
+
+pub showing_none : (s r : Rows) → s ≡ no_rows → IsShowing [] s r
+showing_none s r e = subst (λ (z : Rows). IsShowing [] z r) (sym e) (record {
+  part = record { part = nothing_grows r; plain = nothing_plain; keyed = no_keys };
+  covered = tt;
 })
 
 pub showing_more : (ds : List DocumentCommand) (c : DocumentCommand) (s t r : Rows) → IsShowing ds s r → IsShown c s t r → IsShowing (ds ++ c ∷ []) t r
 showing_more ds c s t r h g = record {
   part = g.part;
   covered = joined ds (all_grown ds s t r g.grows h.covered);
-  keyed = g.keyed;
 }
   where
     joined : (es : List DocumentCommand) → AllCovered es t r → AllCovered (es ++ c ∷ []) t r
     joined [] x = (g.covers, tt)
     joined (d ∷ es) x = (x.0, joined es x.1)
 
-pub part_spaces : (s r : Rows) → IsPart s r → HasSpaces s r
-part_spaces s r h n e = (h n).there e
-
--- ---- a collection is added
+-- ---- a collection that is made
 
 grows_same : (o q : Option Table) → q ≡ o → GrowsIn o q
 grows_same o q e = record {
@@ -108,162 +93,75 @@ grows_same o q e = record {
   document = λ k d f. ap (document_in k) e ∙ f;
 }
 
+all_same : (s : Rows) → Grows s s
+all_same s m = grows_same (map.get s.tables m) (map.get s.tables m) refl
+
 grows_none : (o q : Option Table) → is_some o ≡ false → GrowsIn o q
 grows_none None q e = record { there = λ f. cc; document = λ k d f. cc }
 grows_none (Some t) q e = cc
 
-no_document : (k : Key) (o : Option Table) (d : Document) → rows_in o ≡ [] → document_in k o ≡ Some d → ⊥
-no_document k None d e f = cc
-no_document k (Some t) d e f = (let g : document_of (row_of [] k) ≡ Some d = subst (λ (rs : List Row). document_of (row_of rs k) ≡ Some d) e f in cc)
+abbrev made_table : Rows → Table
+made_table s = described no_options (under_names []) (fresh_table s.count no_options)
 
--- documents under keys tell which document stands under one
-find_keyed : Key → List (Key × Document) → Option Document
-find_keyed k [] = None
-find_keyed k (e ∷ es) = if same_key k e.0 then Some e.1 else find_keyed k es
-
-keyed_found : (k : Key) (rs : List Row) → find_keyed k (keyed rs) ≡ document_of (row_of rs k)
-unfolding find_keyed
-keyed_found k [] = refl
-keyed_found k (r ∷ rs) = by (same_key k r.key) (keyed_found k rs)
-  where
-    by : (b : Bool) → find_keyed k (keyed rs) ≡ document_of (row_of rs k) → (if b then Some r.document else find_keyed k (keyed rs)) ≡ document_of (if b then Some r else row_of rs k)
-    by true h = refl
-    by false h = h
-
-rows_document : (k : Key) (o : Option Table) → document_in k o ≡ document_of (row_of (rows_in o) k)
-rows_document k None = refl
-rows_document k (Some t) = refl
-
-same_document_in : (k : Key) (o p : Option Table) → keyed (rows_in o) ≡ keyed (rows_in p) → document_in k o ≡ document_in k p
-same_document_in k o p e = rows_document k o ∙ (sym (keyed_found k (rows_in o)) ∙ (ap (find_keyed k) e ∙ (keyed_found k (rows_in p) ∙ sym (rows_document k p))))
-
-added_part : (n : NsName) (old new r : Rows) → is_there n r ≡ true → IsAdded n old new r → IsPartIn (map.get new.tables n) (map.get r.tables n)
-added_part n old new r t h = record {
-  there = λ e. t;
-  definitions = λ e. h.definitions;
-  document = λ k d e. by k d h.documents e;
-  documents = λ e. listed h.documents;
-}
-  where
-    by : (k : Key) (d : Document) → ((definitions_in (map.get r.tables n) ≡ []) × (rows_in (map.get new.tables n) ≡ [])) ⊎ (keyed (rows_in (map.get new.tables n)) ≡ keyed (rows_in (map.get r.tables n))) →
-        document_in k (map.get new.tables n) ≡ Some d → document_in k (map.get r.tables n) ≡ Some d
-    by k d (inl a) e = absurd (no_document k (map.get new.tables n) d a.1 e)
-    by k d (inr a) e = sym (same_document_in k (map.get new.tables n) (map.get r.tables n) a) ∙ e
-
-    listed : ((definitions_in (map.get r.tables n) ≡ []) × (rows_in (map.get new.tables n) ≡ [])) ⊎ (keyed (rows_in (map.get new.tables n)) ≡ keyed (rows_in (map.get r.tables n))) →
-        (definitions_in (map.get r.tables n) ≡ []) ⊎ (keyed (rows_in (map.get new.tables n)) ≡ keyed (rows_in (map.get r.tables n)))
-    listed (inl a) = inl a.0
-    listed (inr a) = inr a
-
--- of the other collections too
-pub part_added : (n : NsName) (old new r : Rows) → IsPart old r → is_there n r ≡ true → IsAdded n old new r → IsPart new r
-part_added n old new r p t h m = by (same_ns m n) refl
-  where
-    by : (b : Bool) → same_ns m n ≡ b → IsPartIn (map.get new.tables m) (map.get r.tables m)
-    by true e = subst (λ (z : NsName). IsPartIn (map.get new.tables z) (map.get r.tables z)) (sym (ns_is m n e)) (added_part n old new r t h)
-    by false e = subst (λ (o : Option Table). IsPartIn o (map.get r.tables m)) (sym (h.others m e)) (p m)
-
-pub grows_added : (n : NsName) (old new r : Rows) → is_there n old ≡ false → IsAdded n old new r → Grows old new
-grows_added n old new r t h m = by (same_ns m n) refl
-  where
-    by : (b : Bool) → same_ns m n ≡ b → GrowsIn (map.get old.tables m) (map.get new.tables m)
-    by true e = grows_none (map.get old.tables m) (map.get new.tables m) (ap (λ (z : NsName). is_there z old) (ns_is m n e) ∙ t)
-    by false e = grows_same (map.get old.tables m) (map.get new.tables m) (h.others m e)
-
--- ---- the collection that is made
-
-made_here : (n : NsName) (ds : List Tree) (r : Rows) → map.contains_key r.tables n ≡ false → map.get (describe n no_options ds r).tables n ≡ Some (described no_options (under_names ds) (fresh_table r.count no_options))
-made_here n ds r e = ns_insert_here r.tables n (described no_options (under_names ds) (or_fresh r.count (map.get r.tables n))) ∙ ap (λ (o : Option Table). Some (described no_options (under_names ds) (or_fresh r.count o))) (gone (map.get r.tables n) e)
+made_here : (n : NsName) (s : Rows) → is_there n s ≡ false → map.get (describe n no_options [] s).tables n ≡ Some (made_table s)
+made_here n s e =
+    ns_insert_here s.tables n (described no_options (under_names []) (or_fresh s.count (map.get s.tables n)))
+    ∙ ap (λ (o : Option Table). Some (described no_options (under_names []) (or_fresh s.count o))) (gone (map.get s.tables n) e)
   where
     gone : (o : Option Table) → is_some o ≡ false → o ≡ None
     gone None f = refl
     gone (Some t) f = cc
 
-pub made_empty : (n : NsName) (ds : List Tree) (r : Rows) → map.contains_key r.tables n ≡ false → rows_in (map.get (describe n no_options ds r).tables n) ≡ []
-made_empty n ds r e = ap rows_in (made_here n ds r e)
+made_others : (n : NsName) (s : Rows) → Others n s (describe n no_options [] s)
+made_others n s m e = ns_insert_else s.tables n (described no_options (under_names []) (or_fresh s.count (map.get s.tables n))) m e
 
-pub made_there : (n : NsName) (ds : List Tree) (r : Rows) → map.contains_key r.tables n ≡ false → is_there n (describe n no_options ds r) ≡ true
-made_there n ds r e = ap (λ (o : Option Table). is_some o) (made_here n ds r e)
-
-made_others : (n : NsName) (ds : List Tree) (r : Rows) → Others n r (describe n no_options ds r)
-made_others n ds r m e = ns_insert_else r.tables n (described no_options (under_names ds) (or_fresh r.count (map.get r.tables n))) m e
-
-same_lists : {A : Type 0} (a b : List A) → Some a ≡ Some b → a ≡ b
-same_lists a b e = cc
-
-defined_again : (ds : List Tree) (o : Option Table) → Some ds ≡ option_map (λ (t : Table). map.values t.indexes) o → Some (each definition_name ds) ≡ option_map (λ (t : Table). map.keys t.indexes) o → map.entries (under_names ds) ≡ definitions_in o
-defined_again ds None e f = cc
-defined_again ds (Some t) e f =
-    (let v = same_lists ds (map.values t.indexes) e in
-    let k = same_lists (each definition_name ds) (map.keys t.indexes) f in
-    ap map.entries (ap under_names v ∙ names_again t.indexes (ap (each definition_name) (sym v) ∙ k)))
-
-made_definitions : (n : NsName) (ds : List Tree) (r : Rows) (o : Option Table) → map.contains_key r.tables n ≡ false → Some ds ≡ option_map (λ (t : Table). map.values t.indexes) o → Some (each definition_name ds) ≡ option_map (λ (t : Table). map.keys t.indexes) o →
-    definitions_in (map.get (describe n no_options ds r).tables n) ≡ definitions_in o
-made_definitions n ds r o h e f = ap definitions_in (made_here n ds r h) ∙ defined_again ds o e f
-
-none_defined : (ds : List Tree) (o : Option Table) → Some ds ≡ option_map (λ (t : Table). map.values t.indexes) o → ds ≡ [] → definitions_in o ≡ []
-none_defined ds None e f = refl
-none_defined ds (Some t) e f = empty (map.entries t.indexes) (sym (same_lists ds (map.values t.indexes) e) ∙ f)
+no_entries : map.entries (map.empty {X = Tree} {R = key_cmp}) ≡ []
+no_entries = none (map.entries (map.empty {X = Tree} {R = key_cmp})) (sym (map.len-entries (map.empty {X = Tree} {R = key_cmp})) ∙ map.len-empty key_cmp Tree)
   where
-    empty : (es : List (Key × Tree)) → each (λ (x : Key × Tree). x.1) es ≡ [] → es ≡ []
-    empty [] g = refl
-    empty (x ∷ es) g = cc
+    none : (es : List (Key × Tree)) → length es ≡ 0 → es ≡ []
+    none [] e = refl
+    none (x ∷ es) e = absurd (omega (arith, e))
 
--- without definitions
-pub added_empty : (n : NsName) (ds : List Tree) (old new r : Rows) → new ≡ describe n no_options ds old → AreKeyed old → map.contains_key old.tables n ≡ false → Some ds ≡ option_map (λ (t : Table). map.values t.indexes) (map.get r.tables n) →
-    Some (each definition_name ds) ≡ option_map (λ (t : Table). map.keys t.indexes) (map.get r.tables n) → ds ≡ [] → IsAdded n old new r
-added_empty n ds old new r w k h e f z = subst (λ (x : Rows). IsAdded n old x r) (sym w) (record {
-  others = made_others n ds old;
-  there = made_there n ds old h;
-  definitions = made_definitions n ds old (map.get r.tables n) h e f;
-  documents = inl (none_defined ds (map.get r.tables n) e z, made_empty n ds old h);
-  keyed = describe_keys n no_options ds old k;
-})
-
-keyed_in : (r : Rows) (n : NsName) → AreKeyed r → AllKeyed (rows_in (map.get r.tables n))
-keyed_in r n h = by (map.get r.tables n) refl
+empty_grows : (s : Rows) (p : Option Table) → is_some p ≡ true → GrowsIn (Some (made_table s)) p
+empty_grows s p e = record { there = λ f. e; document = λ k d f. absurd (no_document d f) }
   where
-    by : (o : Option Table) → map.get r.tables n ≡ o → AllKeyed (rows_in o)
-    by None e = tt
-    by (Some t) e = h n t e
+    no_document : (d : Document) → None ≡ Some d → ⊥
+    no_document d f = cc
 
--- with its documents
-pub added_filled : (n : NsName) (ds : List Tree) (old mid new r : Rows) → mid ≡ describe n no_options ds old → AreKeyed r → map.contains_key old.tables n ≡ false → Some ds ≡ option_map (λ (t : Table). map.values t.indexes) (map.get r.tables n) →
-    Some (each definition_name ds) ≡ option_map (λ (t : Table). map.keys t.indexes) (map.get r.tables n) → IsFilled n mid new r → IsAdded n old new r
-added_filled n ds old mid new r w k h e f g = record {
-  others = λ m q. g.others m q ∙ (ap (λ (x : Rows). map.get x.tables m) w ∙ made_others n ds old m q);
-  there = g.there;
-  definitions = g.definitions ∙ (ap (λ (x : Rows). definitions_in (map.get x.tables n)) w ∙ made_definitions n ds old (map.get r.tables n) h e f);
-  documents = inr (same_keyed (rows_in (map.get new.tables n)) (rows_in (map.get r.tables n)) (keyed_in new n g.keyed) (keyed_in r n k) g.filled);
-  keyed = g.keyed;
+made_grows : (n : NsName) (s : Rows) → is_there n s ≡ false → Grows s (describe n no_options [] s)
+made_grows n s t m = by (same_ns m n) refl
+  where
+    by : (b : Bool) → same_ns m n ≡ b → GrowsIn (map.get s.tables m) (map.get (describe n no_options [] s).tables m)
+    by true e = grows_none (map.get s.tables m) (map.get (describe n no_options [] s).tables m) (ap (λ (z : NsName). is_there z s) (ns_is m n e) ∙ t)
+    by false e = grows_same (map.get s.tables m) (map.get (describe n no_options [] s).tables m) (made_others n s m e)
+
+made_part : (n : NsName) (s r : Rows) → is_there n s ≡ false → is_there n r ≡ true → IsPart s r → IsPart (describe n no_options [] s) r
+made_part n s r t u h = record {
+  part = λ m. part m (same_ns m n) refl;
+  plain = λ m. plain m (same_ns m n) refl;
+  keyed = describe_keys n no_options [] s h.keyed;
 }
+  where
+    part : (m : NsName) (b : Bool) → same_ns m n ≡ b → GrowsIn (map.get (describe n no_options [] s).tables m) (map.get r.tables m)
+    part m true e =
+        subst (λ (z : NsName). GrowsIn (map.get (describe n no_options [] s).tables z) (map.get r.tables z)) (sym (ns_is m n e))
+        (subst (λ (o : Option Table). GrowsIn o (map.get r.tables n)) (sym (made_here n s t)) (empty_grows s (map.get r.tables n) u))
+    part m false e = subst (λ (o : Option Table). GrowsIn o (map.get r.tables m)) (sym (made_others n s m e)) (h.part m)
 
-pub no_elements : {A : Type 0} (xs : List A) → true ≡ (length xs == 0) → xs ≡ []
-no_elements [] e = refl
-no_elements (x ∷ xs) e = (let n : length (x ∷ xs) ≡ 0 = eqb-true _ _ (sym e) in absurd (omega (arith, n)))
+    plain : (m : NsName) (b : Bool) → same_ns m n ≡ b → definitions_in (map.get (describe n no_options [] s).tables m) ≡ []
+    plain m true e = ap (λ (z : NsName). definitions_in (map.get (describe n no_options [] s).tables z)) (ns_is m n e) ∙ (ap definitions_in (made_here n s t) ∙ no_entries)
+    plain m false e = ap definitions_in (made_others n s m e) ∙ h.plain m
 
-pub on_ok : {A E : Type 0} (r : Result A E) {P Q : Type 0} → OnOk r P → (P → Q) → OnOk r Q
-on_ok (Ok a) h f = f h
-on_ok (Err e) h f = h
-
--- ---- a part that has the collection
-
-pub has_already : (n : NsName) (s r : Rows) → IsPart s r → AreKeyed s → is_there n s ≡ true → HasCollection n s s r
-has_already n s r p k t = record {
-  part = p;
-  grows = λ m. grows_same (map.get s.tables m) (map.get s.tables m) refl;
-  there = t;
-  keyed = k;
-}
-
-pub has_added : (n : NsName) (old new r : Rows) → IsPart old r → is_there n r ≡ true → is_there n old ≡ false → IsAdded n old new r → HasCollection n old new r
-has_added n old new r p t f h = record {
-  part = part_added n old new r p t h;
-  grows = grows_added n old new r f h;
-  there = h.there;
-  keyed = h.keyed;
-}
+pub has_collection : (n : NsName) (old new r : Rows) → new ≡ with_collection n old → is_there n r ≡ true → IsPart old r → HasCollection n old new r
+has_collection n old new r e u p = subst (λ (z : Rows). HasCollection n old z r) (sym e) (by (is_there n old) refl)
+  where
+    by : (b : Bool) → is_there n old ≡ b → HasCollection n old (if b then old else describe n no_options [] old) r
+    by true f = record { part = p; grows = all_same old; there = f }
+    by false f = record {
+      part = made_part n old r f u p;
+      grows = made_grows n old f;
+      there = ap (λ (o : Option Table). is_some o) (made_here n old f);
+    }
 
 -- ---- a command
 
@@ -272,31 +170,11 @@ no_table_covers v o None e = record { there = λ f. cc; document = λ id d f g. 
 no_table_covers v o (Some t) e = cc
 
 -- of no collection
-pub shows_none : (c : DocumentCommand) (s r : Rows) → IsPart s r → AreKeyed s → is_there (namespace_of c) r ≡ false → IsShown c s s r
-shows_none c s r p k e = record {
+pub missing_shown : (c : DocumentCommand) (n : NsName) (s r : Rows) → n ≡ namespace_of c → IsPart s r → is_there n r ≡ false → IsShown c s s r
+missing_shown c n s r e p f = record {
   part = p;
-  grows = λ m. grows_same (map.get s.tables m) (map.get s.tables m) refl;
-  covers = no_table_covers (id_in c) (map.get s.tables (namespace_of c)) (map.get r.tables (namespace_of c)) e;
-  keyed = k;
-}
-
-whole_covers : (v : Option Value) (o p : Option Table) → IsPartIn o p → is_some o ≡ true → (definitions_in p ≡ [] → ⊥) → CoversIn v o p
-whole_covers v o p h t n = record {
-  there = λ e. t;
-  document = λ id d e f. by (h.documents t) id d f;
-}
-  where
-    by : (definitions_in p ≡ []) ⊎ (keyed (rows_in o) ≡ keyed (rows_in p)) → (id : Value) (d : Document) → document_in (key_of id) p ≡ Some d → document_in (key_of id) o ≡ Some d
-    by (inl e) id d f = absurd (n e)
-    by (inr e) id d f = same_document_in (key_of id) o p e ∙ f
-
--- of a collection with definitions
-pub shows_whole : (c : DocumentCommand) (old new r : Rows) → HasCollection (namespace_of c) old new r → (definitions_in (map.get r.tables (namespace_of c)) ≡ [] → ⊥) → IsShown c old new r
-shows_whole c old new r h n = record {
-  part = h.part;
-  grows = h.grows;
-  covers = whole_covers (id_in c) (map.get new.tables (namespace_of c)) (map.get r.tables (namespace_of c)) (h.part (namespace_of c)) h.there n;
-  keyed = h.keyed;
+  grows = all_same s;
+  covers = no_table_covers (id_in c) (map.get s.tables (namespace_of c)) (map.get r.tables (namespace_of c)) (ap (λ (m : NsName). is_there m r) (sym e) ∙ f);
 }
 
 unnamed_covers : (v : Option Value) (o p : Option Table) → v ≡ None → is_some o ≡ true → CoversIn v o p
@@ -306,12 +184,11 @@ unnamed_covers v o p e t = record { there = λ f. t; document = λ id d f g. abs
     no_id id f = cc
 
 -- of no document
-pub shows_unnamed : (c : DocumentCommand) (old new r : Rows) → HasCollection (namespace_of c) old new r → id_in c ≡ None → IsShown c old new r
-shows_unnamed c old new r h e = record {
+pub unnamed_shown : (c : DocumentCommand) (n : NsName) (old new r : Rows) → n ≡ namespace_of c → HasCollection n old new r → id_in c ≡ None → IsShown c old new r
+unnamed_shown c n old new r w h e = record {
   part = h.part;
   grows = h.grows;
-  covers = unnamed_covers (id_in c) (map.get new.tables (namespace_of c)) (map.get r.tables (namespace_of c)) e h.there;
-  keyed = h.keyed;
+  covers = unnamed_covers (id_in c) (map.get new.tables (namespace_of c)) (map.get r.tables (namespace_of c)) e (ap (λ (m : NsName). is_there m new) (sym w) ∙ h.there);
 }
 
 -- of one document, which isn't there
@@ -337,19 +214,20 @@ added_document k j d o q p h = ap (document_in j) h.now ∙ (put_document_at h.a
 one_document : (d e : Document) → Some d ≡ Some e → d ≡ e
 one_document d e f = cc
 
-adds_part : (k : Key) (d : Document) (o q p : Option Table) → Adds k d o q p → definitions_in p ≡ [] → is_some p ≡ true → IsPartIn o p → IsPartIn q p
-adds_part k d o q p h n t g = record {
-  there = λ e. t;
-  definitions = λ e. ap definitions_in h.now ∙ (ap definitions_in (sym h.was) ∙ g.definitions (ap is_some h.was));
+adds_part : (k : Key) (d : Document) (o q p : Option Table) → Adds k d o q p → GrowsIn o p → GrowsIn q p
+adds_part k d o q p h g = record {
+  there = λ e. g.there (ap is_some h.was);
   document = λ j e f. by j e (same_key j k) refl (sym (added_document k j d o q p h) ∙ f);
-  documents = λ e. inl n;
 }
   where
     by : (j : Key) (e : Document) (b : Bool) → same_key j k ≡ b → (if b then Some d else document_in j o) ≡ Some e → document_in j p ≡ Some e
     by j e true f w = ap (λ (z : Key). document_in z p) (key_is j k f) ∙ (h.stands ∙ w)
     by j e false f w = g.document j e w
 
-adds_grows : (k : Key) (d : Document) (o q p : Option Table) → Adds k d o q p → IsPartIn o p → GrowsIn o q
+adds_plain : (k : Key) (d : Document) (o q p : Option Table) → Adds k d o q p → definitions_in o ≡ [] → definitions_in q ≡ []
+adds_plain k d o q p h e = ap definitions_in h.now ∙ (ap definitions_in (sym h.was) ∙ e)
+
+adds_grows : (k : Key) (d : Document) (o q p : Option Table) → Adds k d o q p → GrowsIn o p → GrowsIn o q
 adds_grows k d o q p h g = record {
   there = λ e. ap is_some h.now;
   document = λ j e f. added_document k j d o q p h ∙ by j e (same_key j k) refl f;
@@ -382,6 +260,17 @@ stands_keyed k d (r ∷ rs) h e = by (same_key k r.key) refl e (stands_keyed k d
     by true f g rest = ap (λ (z : Document). key_in (id_of z)) (sym (one_document r.document d g)) ∙ (sym h.0 ∙ sym (key_is k r.key f))
     by false f g rest = rest g
 
+keyed_in : (r : Rows) (n : NsName) → AreKeyed r → AllKeyed (rows_in (map.get r.tables n))
+keyed_in r n h = by (map.get r.tables n) refl
+  where
+    by : (o : Option Table) → map.get r.tables n ≡ o → AllKeyed (rows_in o)
+    by None e = tt
+    by (Some t) e = h n t e
+
+rows_document : (k : Key) (o : Option Table) → document_in k o ≡ document_of (row_of (rows_in o) k)
+rows_document k None = refl
+rows_document k (Some t) = refl
+
 put_others : (n : NsName) (d : Document) (r : Rows) → Others n r (put n d r)
 put_others n d r m e = ns_insert_else r.tables n (put_table (key_in (id_of d)) d (or_fresh r.count (map.get r.tables n))) m e
 
@@ -399,78 +288,59 @@ put_adds n id d mid r k t e =
 abbrev AddsAt : NsName → Value → Document → Rows → Rows → Type 0
 AddsAt n id d mid r = Adds (key_of id) d (map.get mid.tables n) (map.get (put n d mid).tables n) (map.get r.tables n)
 
-put_shown : (c : DocumentCommand) (id : Value) (d : Document) (old mid r : Rows) → HasCollection (namespace_of c) old mid r → AreKeyed r → is_there (namespace_of c) r ≡ true → definitions_in (map.get r.tables (namespace_of c)) ≡ [] → id_in c ≡ Some id →
-    document_at (namespace_of c) (key_of id) r.tables ≡ Some d → IsShown c old (put (namespace_of c) d mid) r
-put_shown c id d old mid r h k t n e f =
-    (let space = namespace_of c in
-    let new = put space d mid in
-    let adds = put_adds space id d mid r k h.there f in
-    record {
-      part = λ m. part m (same_ns m space) refl adds;
-      grows = λ m. grows_twice (map.get old.tables m) (map.get mid.tables m) (map.get new.tables m) (h.grows m) (grown m (same_ns m space) refl adds);
-      covers = adds_covers (id_in c) id d (map.get mid.tables space) (map.get new.tables space) (map.get r.tables space) e adds;
-      keyed = put_keyed_rows space d mid h.keyed;
-    })
+put_part : (n : NsName) (id : Value) (d : Document) (mid r : Rows) → AddsAt n id d mid r → IsPart mid r → IsPart (put n d mid) r
+put_part n id d mid r a h = record {
+  part = λ m. part m (same_ns m n) refl;
+  plain = λ m. plain m (same_ns m n) refl;
+  keyed = put_keyed_rows n d mid h.keyed;
+}
   where
-    part : (m : NsName) (b : Bool) → same_ns m (namespace_of c) ≡ b → AddsAt (namespace_of c) id d mid r → IsPartIn (map.get (put (namespace_of c) d mid).tables m) (map.get r.tables m)
-    part m true g adds =
-        subst (λ (z : NsName). IsPartIn (map.get (put (namespace_of c) d mid).tables z) (map.get r.tables z)) (sym (ns_is m (namespace_of c) g))
-        (adds_part (key_of id) d (map.get mid.tables (namespace_of c)) (map.get (put (namespace_of c) d mid).tables (namespace_of c)) (map.get r.tables (namespace_of c)) adds n t (h.part (namespace_of c)))
-    part m false g adds = subst (λ (o : Option Table). IsPartIn o (map.get r.tables m)) (sym (put_others (namespace_of c) d mid m g)) (h.part m)
+    part : (m : NsName) (b : Bool) → same_ns m n ≡ b → GrowsIn (map.get (put n d mid).tables m) (map.get r.tables m)
+    part m true g =
+        subst (λ (z : NsName). GrowsIn (map.get (put n d mid).tables z) (map.get r.tables z)) (sym (ns_is m n g))
+        (adds_part (key_of id) d (map.get mid.tables n) (map.get (put n d mid).tables n) (map.get r.tables n) a (h.part n))
+    part m false g = subst (λ (o : Option Table). GrowsIn o (map.get r.tables m)) (sym (put_others n d mid m g)) (h.part m)
 
-    grown : (m : NsName) (b : Bool) → same_ns m (namespace_of c) ≡ b → AddsAt (namespace_of c) id d mid r → GrowsIn (map.get mid.tables m) (map.get (put (namespace_of c) d mid).tables m)
-    grown m true g adds =
-        subst (λ (z : NsName). GrowsIn (map.get mid.tables z) (map.get (put (namespace_of c) d mid).tables z)) (sym (ns_is m (namespace_of c) g))
-        (adds_grows (key_of id) d (map.get mid.tables (namespace_of c)) (map.get (put (namespace_of c) d mid).tables (namespace_of c)) (map.get r.tables (namespace_of c)) adds (h.part (namespace_of c)))
-    grown m false g adds = grows_same (map.get mid.tables m) (map.get (put (namespace_of c) d mid).tables m) (put_others (namespace_of c) d mid m g)
+    plain : (m : NsName) (b : Bool) → same_ns m n ≡ b → definitions_in (map.get (put n d mid).tables m) ≡ []
+    plain m true g =
+        ap (λ (z : NsName). definitions_in (map.get (put n d mid).tables z)) (ns_is m n g)
+        ∙ adds_plain (key_of id) d (map.get mid.tables n) (map.get (put n d mid).tables n) (map.get r.tables n) a (h.plain n)
+    plain m false g = ap definitions_in (put_others n d mid m g) ∙ h.plain m
 
--- of one document of a collection without definitions
-pub shows_named : (c : DocumentCommand) (id : Value) (old mid new r : Rows) → HasCollection (namespace_of c) old mid r → AreKeyed r → is_there (namespace_of c) r ≡ true → definitions_in (map.get r.tables (namespace_of c)) ≡ [] → id_in c ≡ Some id →
-    MayAdd (namespace_of c) (document_at (namespace_of c) (key_of id) r.tables) mid new → IsShown c old new r
-shows_named c id old mid new r h k t n e = by (document_at (namespace_of c) (key_of id) r.tables) refl
+put_grows : (n : NsName) (id : Value) (d : Document) (mid r : Rows) → AddsAt n id d mid r → Grows mid r → Grows mid (put n d mid)
+put_grows n id d mid r a h m = by (same_ns m n) refl
+  where
+    by : (b : Bool) → same_ns m n ≡ b → GrowsIn (map.get mid.tables m) (map.get (put n d mid).tables m)
+    by true g =
+        subst (λ (z : NsName). GrowsIn (map.get mid.tables z) (map.get (put n d mid).tables z)) (sym (ns_is m n g))
+        (adds_grows (key_of id) d (map.get mid.tables n) (map.get (put n d mid).tables n) (map.get r.tables n) a (h n))
+    by false g = grows_same (map.get mid.tables m) (map.get (put n d mid).tables m) (put_others n d mid m g)
+
+named_in : (c : DocumentCommand) (id : Value) (old mid new r : Rows) → HasCollection (namespace_of c) old mid r → AreKeyed r → id_in c ≡ Some id → MayAdd (namespace_of c) (document_at (namespace_of c) (key_of id) r.tables) mid new → IsShown c old new r
+named_in c id old mid new r h k e = by (document_at (namespace_of c) (key_of id) r.tables) refl
   where
     by : (o : Option Document) → document_at (namespace_of c) (key_of id) r.tables ≡ o → MayAdd (namespace_of c) o mid new → IsShown c old new r
     by None f a = subst (λ (z : Rows). IsShown c old z r) (sym a) (record {
       part = h.part;
       grows = h.grows;
       covers = absent_covers (id_in c) id (map.get mid.tables (namespace_of c)) (map.get r.tables (namespace_of c)) e h.there f;
-      keyed = h.keyed;
     })
-    by (Some d) f a = subst (λ (z : Rows). IsShown c old z r) (sym a) (put_shown c id d old mid r h k t n e f)
+    by (Some d) f a =
+        (let n = namespace_of c in
+        let adds = put_adds n id d mid r k h.there f in
+        subst (λ (z : Rows). IsShown c old z r) (sym a) (record {
+          part = put_part n id d mid r adds h.part;
+          grows = λ m. grows_twice (map.get old.tables m) (map.get mid.tables m) (map.get (put n d mid).tables m) (h.grows m) (put_grows n id d mid r adds h.part.part m);
+          covers = adds_covers (id_in c) id d (map.get mid.tables n) (map.get (put n d mid).tables n) (map.get r.tables n) e adds;
+        }))
 
--- ---- as the code names its collection
+-- of one document, if it is there
+pub named_shown : (c : DocumentCommand) (n : NsName) (id : Value) (old mid new r : Rows) → n ≡ namespace_of c → HasCollection n old mid r → AreKeyed r → id_in c ≡ Some id → MayAdd n (document_at n (key_of id) r.tables) mid new → IsShown c old new r
+named_shown c n id old mid new r e h k i a =
+    named_in c id old mid new r (subst (λ (m : NsName). HasCollection m old mid r) e h) k i (subst (λ (m : NsName). MayAdd m (document_at m (key_of id) r.tables) mid new) e a)
 
-pub mapped_there : {A B : Type 0} (f : A → B) (b : B) (o : Option A) → Some b ≡ option_map f o → is_some o ≡ true
-mapped_there f b None e = cc
-mapped_there f b (Some a) e = refl
+-- ---- answers of calls
 
-pub mapped_none : {A B : Type 0} (f : A → B) (o : Option A) → None ≡ option_map f o → is_some o ≡ false
-mapped_none f None e = refl
-mapped_none f (Some a) e = cc
-
-empty_values : (es : List (Key × Tree)) → es ≡ [] → each (λ (x : Key × Tree). x.1) es ≡ []
-empty_values es e = ap (each (λ (x : Key × Tree). x.1)) e
-
-pub whole_shown : (c : DocumentCommand) (n : NsName) (ds : List Tree) (old new r : Rows) → n ≡ namespace_of c → HasCollection n old new r → Some ds ≡ option_map (λ (t : Table). map.values t.indexes) (map.get r.tables n) → (ds ≡ [] → ⊥) → IsShown c old new r
-whole_shown c n ds old new r e h f g =
-    shows_whole c old new r (subst (λ (m : NsName). HasCollection m old new r) e h)
-    (λ w. g (empty (map.get r.tables n) f (ap (λ (m : NsName). definitions_in (map.get r.tables m)) e ∙ w)))
-  where
-    empty : (o : Option Table) → Some ds ≡ option_map (λ (t : Table). map.values t.indexes) o → definitions_in o ≡ [] → ds ≡ []
-    empty None p q = cc
-    empty (Some t) p q = same_lists ds (map.values t.indexes) p ∙ empty_values (map.entries t.indexes) q
-
-pub named_shown : (c : DocumentCommand) (n : NsName) (ds : List Tree) (id : Value) (old mid new r : Rows) → n ≡ namespace_of c → HasCollection n old mid r → AreKeyed r → Some ds ≡ option_map (λ (t : Table). map.values t.indexes) (map.get r.tables n) → ds ≡ [] → id_in c ≡ Some id →
-    MayAdd n (document_at n (key_of id) r.tables) mid new → IsShown c old new r
-named_shown c n ds id old mid new r e h k f z i a =
-    shows_named c id old mid new r (subst (λ (m : NsName). HasCollection m old mid r) e h) k
-    (ap (λ (m : NsName). is_there m r) (sym e) ∙ mapped_there (λ (t : Table). map.values t.indexes) ds (map.get r.tables n) f)
-    (ap (λ (m : NsName). definitions_in (map.get r.tables m)) (sym e) ∙ none_defined ds (map.get r.tables n) f z) i
-    (subst (λ (m : NsName). MayAdd m (document_at m (key_of id) r.tables) mid new) e a)
-
-pub showing_none : (s r : Rows) → s ≡ no_rows → IsShowing [] s r
-showing_none s r e = subst (λ (z : Rows). IsShowing [] z r) (sym e) (record {
-  part = nothing_part r;
-  covered = tt;
-  keyed = no_keys;
-})
+pub on_ok : {A E : Type 0} (r : Result A E) {P Q : Type 0} → OnOk r P → (P → Q) → OnOk r Q
+on_ok (Ok a) h f = f h
+on_ok (Err e) h f = h

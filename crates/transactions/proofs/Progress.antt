@@ -20,10 +20,9 @@ use Rattle.schedule_model.specs.declared.command.DocumentCommand.{DocumentComman
 use Rattle.schedule_model.specs.declared.refused.Refused.{Refused}
 use Rattle.history_model.specs.Commands.{RecordedWrite, document_changes, rows_of_changes, and_then, changes_together}
 use Rattle.history_model.specs.Entries.{item_entry, entry_with}
-use Rattle.history_model.specs.Refusals.{document_refusal}
+use Rattle.history_model.specs.Refusals.{is_there, document_refusal}
 use Rattle.command_refusals.specs.Keyed.{AreKeyed}
 use Rattle.transactions.specs.declared.change_record.ChangeRecord.{ChangeRecord}
-use Rattle.transactions.specs.Scratch.{HasSpaces}
 use Rattle.transactions.specs.Steps.{IsStep, IsAppended}
 use Rattle.transactions.specs.Transactions.{write_of, AreMade, Answers, IsGood, AreGood}
 use Rattle.transactions.proofs.Keys.{change_keys}
@@ -45,6 +44,10 @@ onto_twice ms ns (Err x) = refl
 onto_none : (rest : Result (List RecordedWrite) Refused) → onto [] rest ≡ rest
 onto_none (Ok more) = refl
 onto_none (Err x) = refl
+
+-- no other collections
+abbrev HasSpaces : Rows → Rows → Type 0
+HasSpaces s r = (n : NsName) → is_there n s ≡ true → is_there n r ≡ true
 
 -- so many commands were made on rows, which are as they leave them
 pub record HaveMade (ts : Ts) (f : Form) (cs : List DocumentCommand) (i : ℕ) (start now : Rows) (changes : List Change) (entries : List Entry) : Type 0 where
@@ -166,14 +169,7 @@ is_done ts f cs i start now changes entries l h =
     subst (Answers ts (Ok (record { changes = changes; entries = entries })))
     (sym (h.rest ∙ (ap (λ (z : List DocumentCommand). onto h.writes (changes_together f z now)) (drop_all i cs l) ∙ ap (λ (z : List RecordedWrite). Ok z) (append-nil h.writes)))) h.made
 
--- ---- on the rows that the commands were shown
-
-good_shown : (cs : List Change) (s r : Rows) → HasSpaces s r → AreGood cs s.tables → AreGood cs r.tables
-good_shown [] s r h g = tt
-good_shown (c ∷ cs) s r h g = (good_before c s r h g.0, good_shown cs s r h g.1)
-
-pub good_on : (cs : List Change) (s r : Rows) → HasSpaces s r → AreGood cs s.tables → AreGood cs r.tables
-good_on cs s r h g = good_shown cs s r h g
+-- ---- what good changes are
 
 pub good_there : (cs : List Change) (ts : Tables) → AreGood cs ts → AreThere cs ts
 good_there [] ts g = tt

@@ -1,5 +1,5 @@
 -- What the code makes of a command that isn't refused is what the command makes.
-use Rattle.std.proofs.Common.{◌≡◌, List, [], ◌∷◌, Bool, true, false, refl, sym, ap, ◌∙◌, subst, length, Option, Some, None, Ok}
+use Rattle.std.proofs.Common.{◌≡◌, List, [], ◌∷◌, Bool, true, false, refl, sym, ap, ◌∙◌, subst, length, Option, Some, None, Result, Ok, Err}
 use Rattle.std.specs.Prelude.{◌≤◌, nat_le, is_some, IfSome}
 use Rattle.std.proofs.lemmas.Bool.{leb-true, and_parts}
 use Rattle.std.specs.FinMap as map
@@ -24,12 +24,14 @@ use Rattle.update_action.specs.Recorded as delta
 use Rattle.update_model.specs.declared.updated.Updated.{Updated}
 use Rattle.schedule_model.specs.declared.command.DocumentCommand.{DocumentCommand}
 use Rattle.schedule_model.specs.declared.command.DocumentCommand.TheVariants.{Insert, Replace, Update, Delete}
+use Rattle.schedule_model.specs.declared.refused.Refused.{Refused}
 use Rattle.history_model.specs.Documents.{id_first, is_good_document}
 use Rattle.history_model.specs.Entries.{Item, entry_with, item_entry, delta_or_whole, update_item}
 use Rattle.history_model.specs.Entries as entries
-use Rattle.history_model.specs.Refusals.{row_in, row_at, update_of, document_rows, document_refusal}
+use Rattle.history_model.specs.Refusals.{is_there, namespace_of, row_in, row_at, update_of, document_rows, document_refusal}
 use Rattle.history_model.specs.Commands.{RecordedWrite, put_change, insert_changes, replace_changes, update_changes, under_id, document_changes}
 use Rattle.history_model.proofs.Accepted.{all_false}
+use Rattle.transaction_indexes.proofs.Refusing.{there_refused}
 use Rattle.stored_documents.proofs.Sizes.{first_id, good_id, good_short}
 use Rattle.stored_documents.proofs.Updates.{keeps_id, stays_short}
 use Rattle.transactions.specs.declared.change_record.ChangeRecord.{ChangeRecord}
@@ -37,10 +39,17 @@ use Rattle.transactions.specs.Transactions.{write_by, IsGood}
 use Rattle.transactions.specs.Steps.{changes_nothing, update_made, IsPut, IsMade, IsStep}
 use Rattle.history_model.proofs.IndexesHeld.{is_good}
 
-same_some : {A : Type 0} (x y : A) → Some x ≡ Some y → x ≡ y
-same_some x y e = cc
+-- ---- a command on a collection that is there
+
+pub step_in : (f : Form) (c : DocumentCommand) (a : Result (Option ChangeRecord) Refused) (old new : Rows) → is_there (namespace_of c) old ≡ true → IsStep false f c a old new → IsStep true f c a old new
+step_in f c (Err x) old new t h = there_refused c old t ∙ h
+step_in f c (Ok None) old new t h = (there_refused c old t ∙ h.0, h.1, h.2)
+step_in f c (Ok (Some x)) old new t h = (there_refused c old t ∙ h.0, h.1)
 
 -- ---- a change that puts a document
+
+same_some : {A : Type 0} (x y : A) → Some x ≡ Some y → x ≡ y
+same_some x y e = cc
 
 -- every document of the change is this one
 the_document : (c : Change) (d e : Document) → c.doc ≡ Some d → c.doc ≡ Some e → d ≡ e

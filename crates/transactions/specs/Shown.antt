@@ -1,36 +1,8 @@
--- Collections that show commands the same as others do.
-use Rattle.std.specs.Prelude.{⊤, ◌≡◌, ◌⊎◌, List, [], ◌∷◌, map as each, Option, Some, is_some}
-use Rattle.std.specs.FinMap as map
-use Rattle.bson_value.specs.declared.value.Value.{Value}
-use Rattle.bson_encode.specs.Key.{key_of}
-use Rattle.state_model.specs.Keys.{Key}
-use Rattle.coll_state.specs.Changes.{document_in}
-use Rattle.coll_state.specs.Rows.{Document, Row, Rows, Table, id_of}
+-- Collections that show the commands of a transaction what others do.
+use Rattle.std.specs.Prelude.{⊤, List, [], ◌∷◌}
+use Rattle.coll_state.specs.Rows.{Rows}
 use Rattle.schedule_model.specs.declared.command.DocumentCommand.{DocumentCommand}
-use Rattle.schedule_model.specs.declared.command.DocumentCommand.TheVariants.{Insert, Replace, Update, Delete}
-use Rattle.history_model.specs.Refusals.{namespace_of, definitions_in, rows_in}
-
--- the `_id` that a command names
-abbrev pub id_in : DocumentCommand → Option Value
-id_in (Insert n d) = id_of d
-id_in (Replace n d) = id_of d
-id_in (Update n id ops) = Some id
-id_in (Delete n id) = Some id
-
--- documents under their keys, without numbers
-abbrev pub keyed : List Row → List (Key × Document)
-keyed rs = each (λ (r : Row). (r.key, r.document)) rs
-
--- both are there or none is, with the same definitions and the same document of the `_id`; where there are definitions, with the same documents in record order
-pub record ShowsIn (id : Option Value) (o p : Option Table) : Type 0 where
-  pub there : is_some o ≡ is_some p
-  pub definitions : definitions_in o ≡ definitions_in p
-  pub document : (v : Value) → id ≡ Some v → document_in (key_of v) o ≡ document_in (key_of v) p
-  pub documents : (definitions_in p ≡ []) ⊎ (keyed (rows_in o) ≡ keyed (rows_in p))
-
--- the first rows show the command what the second do
-abbrev pub Shows : DocumentCommand → Rows → Rows → Type 0
-Shows c s r = ShowsIn (id_in c) (map.get s.tables (namespace_of c)) (map.get r.tables (namespace_of c))
+use Rattle.transaction_indexes.specs.Shown.{Shows}
 
 abbrev pub ShowAll : List DocumentCommand → Rows → Rows → Type 0
 ShowAll [] s r = ⊤

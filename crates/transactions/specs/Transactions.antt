@@ -17,6 +17,7 @@ use Rattle.history_model.specs.Commands.{RecordedWrite}
 use Rattle.history_model.specs.Entries.{item_entry}
 use Rattle.history_model.specs.Stages.{rows_all}
 use Rattle.command_refusals.specs.Keyed.{AreKeyed}
+use Rattle.kept_indexes.specs.Kept.{KeptCollections, AreKept}
 use Rattle.transactions.specs.declared.transaction.Transaction.{Transaction}
 
 abbrev pub write_by : NsName → Key → Option Document → SingleWrite
@@ -38,6 +39,12 @@ Answers ts (Ok t) (Ok ms) = AreMade ts t.changes t.entries ms
 Answers ts (Err x) (Err y) = x ≡ y
 Answers ts (Ok t) (Err y) = ⊥
 Answers ts (Err x) (Ok ms) = ⊥
+
+-- the indexes are those behind the changes, or else those of the rows as they are
+abbrev pub AreKeptBehind : {E : Type 0} → Result (Result Transaction Refused) E → KeptCollections → Rows → Type 0
+AreKeptBehind (Ok (Ok t)) ks r = AreKept ks (change_all t.changes r)
+AreKeptBehind (Ok (Err x)) ks r = AreKept ks r
+AreKeptBehind (Err e) ks r = AreKept ks r
 
 -- a change of a collection that is there: the document that is put has the `_id` that is named, at most 16,777,216 bytes and at most 100 levels
 pub record IsGood (c : Change) (ts : Tables) : Type 0 where

@@ -1,18 +1,27 @@
-use Rattle.std.proofs.Common.{◌≡◌, Bool, true, false, arith, sym}
+use Rattle.std.proofs.Common.{◌≡◌, true, false, arith, sym, ◌∙◌}
 use Rattle.std.proofs.lemmas.Grind.{common_steps}
-use Rattle.transactions.proofs.Parts.{on_ok, whole_shown, named_shown}
+use Rattle.history_model.specs.Refusals.{is_there}
+use Rattle.transactions.proofs.Parts.{on_ok, has_collection, missing_shown, unnamed_shown, named_shown}
 use Rattle.transactions.proofs.scratch.show.Goals as goal
 
-no : (b : Bool) → b ≡ false → b ≡ true → ⊥
-no b e f = cc
+pub returns-then-not-has : goal.returns-then-not-has
+returns-then-not-has c =
+    let n : c.has.result ≡ false = first_of (cc, grind (arith, common_steps)) in
+    missing_shown c.args.command.now c.namespace_of-ns.result.now c.args.part.now c.args.state.now c.namespace_of-ns.ensures c.requires.part (sym c.has.ensures ∙ n)
 
-pub returns-then-not-is_empty : goal.returns-then-not-is_empty
-returns-then-not-is_empty c =
-    let n : c.is_empty.result ≡ false = first_of (cc, grind (arith, common_steps)) in
-    whole_shown c.args.command.now c.namespace_of-ns.result.now c.in-Some.defs.now c.args.part.now c.have_collection.new.part c.args.state.now c.namespace_of-ns.ensures c.in_ok-have_collection.ensures c.in-Some.ensures.definitions (λ z. no c.is_empty.result n (c.is_empty.ensures.1 z))
-
-pub returns-in-Some-id_in : goal.returns-in-Some-id_in
-returns-in-Some-id_in c =
+pub returns-in-Some : goal.returns-in-Some
+returns-in-Some c =
+    let n = c.namespace_of-ns.result.now in
+    let b : c.has.result ≡ true = first_of (cc, grind (arith, common_steps)) in
+    let there : is_there n c.args.state.now ≡ true = sym c.has.ensures ∙ b in
     on_ok c.add_document.result c.add_document.ensures
-    (λ a. named_shown c.args.command.now c.namespace_of-ns.result.now c.in-Some.defs.now c.in-Some-id_in.id.now c.args.part.now c.have_collection.new.part c.add_document.new.part c.args.state.now c.namespace_of-ns.ensures c.in_ok-have_collection.ensures c.requires.keyed c.in-Some.ensures.definitions
-    (c.is_empty.ensures.0 (first_of (cc, grind (arith, common_steps)))) (sym c.in-Some-id_in.ensures) a)
+    (λ a. named_shown c.args.command.now n c.in-Some.id.now c.args.part.now c.have_collection.new.part c.add_document.new.part c.args.state.now c.namespace_of-ns.ensures
+    (has_collection n c.args.part.now c.have_collection.new.part c.args.state.now c.in_ok-have_collection.ensures there c.requires.part) c.requires.keyed (sym c.in-Some.ensures) a)
+
+pub returns-in-None : goal.returns-in-None
+returns-in-None c =
+    let n = c.namespace_of-ns.result.now in
+    let b : c.has.result ≡ true = first_of (cc, grind (arith, common_steps)) in
+    let there : is_there n c.args.state.now ≡ true = sym c.has.ensures ∙ b in
+    unnamed_shown c.args.command.now n c.args.part.now c.have_collection.new.part c.args.state.now c.namespace_of-ns.ensures
+    (has_collection n c.args.part.now c.have_collection.new.part c.args.state.now c.in_ok-have_collection.ensures there c.requires.part) (sym c.in-None.ensures)

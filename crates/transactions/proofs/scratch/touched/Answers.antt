@@ -19,4 +19,4 @@ loop-command-preserved c =
 pub returns-clause-shows : goal.returns-clause-shows
 returns-clause-shows c =
     subst (λ (cs : List DocumentCommand). ShowAll cs c.loop-command.part c.args.state.now) (take_all c.loop-command.command-index c.args.commands.now c.loop-command-test.false)
-    (all_shown (take c.loop-command.command-index c.args.commands.now) c.loop-command.part c.args.state.now c.loop-command.invariant.part c.loop-command.invariant.covered)
+    (all_shown (take c.loop-command.command-index c.args.commands.now) c.loop-command.part c.args.state.now c.loop-command.invariant.part.part c.loop-command.invariant.covered)

@@ -6,7 +6,7 @@ use Rattle.schedule_model.specs.declared.command.DocumentCommand.TheVariants.{In
 use Rattle.history_model.specs.Refusals.{is_there, namespace_of}
 use Rattle.transactions.specs.Steps.{IsStep}
 use Rattle.transactions.proofs.Progress.{if_ok}
-use Rattle.transactions.proofs.Refusing.{step_in}
+use Rattle.transactions.proofs.Steps.{step_in}
 use Rattle.transactions.proofs.step.step.Goals as goal
 
 pub returns-in-Insert : goal.returns-in-Insert

@@ -1,23 +1,34 @@
-use Rattle.std.proofs.Common.{subst}
-use Rattle.transactions.specs.Transactions.{Answers}
-use Rattle.transactions.proofs.Kept.{same_together, alike}
-use Rattle.transactions.proofs.Progress.{if_ok, good_on, good_there, good_ids}
+use Rattle.std.proofs.Common.{sym, ◌∙◌}
+use Rattle.transactions.proofs.Progress.{if_ok, good_there, good_ids}
+use Rattle.transactions.proofs.Running.{runs_answer, runs_good, runs_count, runs_kept, failed_kept}
 use Rattle.transactions.proofs.transaction.changes_together.Goals as goal
 
-pub returns-clause-answer : goal.returns-clause-answer
-returns-clause-answer c =
-    let s = c.in_ok-rows.rows in
-    let r = c.args.state.now in
-    if_ok c.run.result c.run.ensures.answer
-    (λ a h. subst (Answers c.args.ts a) (same_together c.args.form c.args.commands.now s r (alike c.args.commands.now s r c.is_sound.ensures c.is_sound-2.ensures c.in_ok-rows.ensures.shows)) h)
+pub returns-then-is_err-clause-kept : goal.returns-then-is_err-clause-kept
+returns-then-is_err-clause-kept c =
+    failed_kept c.trial-answer.result c.args.commands.now c.args.indexes.now c.trial-answer.new.indexes c.forget_all.new.indexes c.args.state.now (sym c.is_err.ensures.value ∙ c.if-is_err.true) c.requires.kept c.trial-answer.ensures.others c.forget_all.ensures.forgotten
 
-pub returns-clause-there : goal.returns-clause-there
-returns-clause-there c =
-    if_ok c.run.result c.run.ensures.good (λ a h. if_ok a h (λ t g. good_there t.changes c.args.state.now.tables (good_on t.changes c.in_ok-rows.rows c.args.state.now c.in_ok-rows.ensures.spaces g)))
+pub returns-else-is_err-clause-answer : goal.returns-else-is_err-clause-answer
+returns-else-is_err-clause-answer c =
+    if_ok c.trial-answer.result c.trial-answer.ensures.runs (λ a h. runs_answer c.args.ts c.args.form c.args.commands.now a c.trial-answer.new.indexes c.args.state.now h)
 
-pub returns-clause-ids : goal.returns-clause-ids
-returns-clause-ids c = if_ok c.run.result c.run.ensures.good (λ a h. if_ok a h (λ t g. good_ids t.changes c.in_ok-rows.rows.tables g))
+pub returns-else-is_err-clause-there : goal.returns-else-is_err-clause-there
+returns-else-is_err-clause-there c =
+    if_ok c.trial-answer.result c.trial-answer.ensures.runs
+    (λ a h. if_ok a (runs_good c.args.ts c.args.form c.args.commands.now a c.trial-answer.new.indexes c.args.state.now h) (λ t g. good_there t.changes c.args.state.now.tables g))
 
-pub returns-clause-good : goal.returns-clause-good
-returns-clause-good c =
-    if_ok c.run.result c.run.ensures.good (λ a h. if_ok a h (λ t g. good_on t.changes c.in_ok-rows.rows c.args.state.now c.in_ok-rows.ensures.spaces g))
+pub returns-else-is_err-clause-ids : goal.returns-else-is_err-clause-ids
+returns-else-is_err-clause-ids c =
+    if_ok c.trial-answer.result c.trial-answer.ensures.runs
+    (λ a h. if_ok a (runs_good c.args.ts c.args.form c.args.commands.now a c.trial-answer.new.indexes c.args.state.now h) (λ t g. good_ids t.changes c.args.state.now.tables g))
+
+pub returns-else-is_err-clause-good : goal.returns-else-is_err-clause-good
+returns-else-is_err-clause-good c =
+    if_ok c.trial-answer.result c.trial-answer.ensures.runs (λ a h. runs_good c.args.ts c.args.form c.args.commands.now a c.trial-answer.new.indexes c.args.state.now h)
+
+pub returns-else-is_err-clause-count : goal.returns-else-is_err-clause-count
+returns-else-is_err-clause-count c =
+    if_ok c.trial-answer.result c.trial-answer.ensures.runs (λ a h. runs_count c.args.ts c.args.form c.args.commands.now a c.trial-answer.new.indexes c.args.state.now h)
+
+pub returns-else-is_err-clause-kept : goal.returns-else-is_err-clause-kept
+returns-else-is_err-clause-kept c =
+    runs_kept c.args.ts c.args.form c.args.commands.now c.trial-answer.result c.trial-answer.new.indexes c.args.state.now (sym c.is_err.ensures.value ∙ c.if-is_err.false) c.trial-answer.ensures.runs

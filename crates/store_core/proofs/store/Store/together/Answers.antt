@@ -1,21 +1,15 @@
-use Rattle.std.proofs.Common.{◌≡◌, ◌<◌, ◌≤◌, ◌^◌, length, arith}
-use Rattle.std.proofs.lemmas.Grind.{common_steps}
-use Rattle.store_core.proofs.TogetherEffects.{together_made, together_large}
+use Rattle.std.proofs.Common.{List, sym, ◌∙◌, subst}
+use Rattle.schedule_model.specs.declared.command.DocumentCommand.{DocumentCommand}
+use Rattle.transaction_indexes.specs.Following.{AreForgotten}
+use Rattle.store_core.proofs.TogetherEffects.{group_failed, group_kept, kept_elsewhere}
 use Rattle.store_core.proofs.store.Store.together.Goals as goal
 
-pub returns-then-len-gt-MOST_BYTES : goal.returns-then-len-gt-MOST_BYTES
-returns-then-len-gt-MOST_BYTES c =
-    (let t = c.in_ok-changes.field-0 in
-    let size : c.len.result ≡ length t.changes = c.len.ensures in
-    let some : 0 < length t.changes = grind (arith, common_steps) in
-    let long : 16793600 < length c.in_ok-bytes.bytes = (let e = c.len-2.ensures in grind (arith, common_steps)) in
-    together_large c.entry_sizes.ensures.entries c.args.commands.now c.args.self.now t c.in_ok-bytes.bytes c.next_ts.result c.in_ok-changes.ensures some c.next_ts.ensures c.in_ok-bytes.ensures long)
+pub returns-then-is_err-clause-kept : goal.returns-then-is_err-clause-kept
+returns-then-is_err-clause-kept c =
+    group_failed c.group-group.result c.forget_all.new.indexes c.args.self.now.rows (sym c.is_err.ensures.value ∙ c.if-is_err.true)
+    (kept_elsewhere c.args.commands.now c.args.indexes.now c.transaction.new.indexes c.forget_all.new.indexes c.args.self.now.rows c.requires c.transaction.ensures.others
+    (subst (λ (cs : List DocumentCommand). AreForgotten cs c.transaction.new.indexes c.forget_all.new.indexes) c.as_slice.ensures c.forget_all.ensures.forgotten))
 
-pub returns : goal.returns
-returns c =
-    (let t = c.in_ok-changes.field-0 in
-    let size : c.len.result ≡ length t.changes = c.len.ensures in
-    let some : 0 < length t.changes = grind (arith, common_steps) in
-    let few : length t.changes < 2 ^ 64 = grind (arith, common_steps) in
-    let short : length c.in_ok-bytes.bytes ≤ 16793600 = (let e = c.len-2.ensures in grind (arith, common_steps)) in
-    together_made c.entry_sizes.ensures.entries c.args.commands.now c.args.self.now t c.in_ok-bytes.bytes c.next_ts.result c.in_ok-changes.ensures some few c.next_ts.ensures c.in_ok-bytes.ensures short)
+pub returns-else-is_err-clause-kept : goal.returns-else-is_err-clause-kept
+returns-else-is_err-clause-kept c =
+    group_kept c.group-group.result c.in_ok-transaction.transaction c.transaction.new.indexes c.args.self.now.rows (sym c.is_err.ensures.value ∙ c.if-is_err.false) c.group-group.ensures.behind c.in_ok-transaction.ensures.kept

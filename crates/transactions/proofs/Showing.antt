@@ -1,31 +1,29 @@
--- Rows that show commands the same still do after the same changes, so a transaction is answered alike on both.
-use Rattle.std.proofs.Common.{◌≡◌, ℕ, List, [], ◌∷◌, Bool, true, false, cond, refl, sym, ap, ◌∙◌, subst, Option, Some, None, inl, inr}
-use Rattle.std.specs.Prelude.{⊤, ◌⊎◌, is_some, option_map, if◌then◌else◌}
+-- Rows that show commands the same still do after the same write of a document, and have the same definitions.
+use Rattle.std.proofs.Common.{◌≡◌, ℕ, List, [], ◌∷◌, Bool, true, false, refl, sym, ap, ◌∙◌, subst, Option, Some, None}
+use Rattle.std.specs.Prelude.{⊤, is_some, option_map, if◌then◌else◌}
 use Rattle.std.specs.FinMap as map
 use Rattle.bson_value.specs.declared.namespace.NsName.{NsName}
-use Rattle.bson_value.specs.declared.value.Value.{Value}
+use Rattle.bson_value.specs.declared.value.Value.{Value, Object}
 use Rattle.bson_encode.specs.Key.{key_of}
 use Rattle.doc_path.specs.declared.parts.Form.{Form}
 use Rattle.state_model.specs.Keys.{Key, same_key, same_ns}
 use Rattle.state_model.proofs.Keys.{ns_is, key_is}
-use Rattle.state_model.proofs.Maps.{ns_at_insert, ns_insert_here, ns_insert_else}
+use Rattle.state_model.proofs.Maps.{ns_insert_here, ns_insert_else}
 use Rattle.coll_state.specs.Changes.{Tables, document_of, put_row, drop_row, put_table, drop_table, or_fresh, on_found}
 use Rattle.coll_state.specs.Rows.{Document, Row, Rows, Table, Rising, AreSound, row_of, id_of}
 use Rattle.coll_state.proofs.RowLists.{row_put_doc, row_put_else, row_drop_else, row_drop_here}
 use Rattle.copy_model.specs.Writes.{SingleWrite, change_rows}
 use Rattle.copy_model.specs.Writes as writes
-use Rattle.copy_model.proofs.RowWrites.{change_sound}
 use Rattle.schedule_model.specs.declared.command.DocumentCommand.{DocumentCommand}
 use Rattle.schedule_model.specs.declared.command.DocumentCommand.TheVariants.{Insert, Replace, Update, Delete}
-use Rattle.schedule_model.specs.declared.refused.Refused.{Refused}
 use Rattle.update_model.specs.declared.updated.Updated.{Updated}
 use Rattle.update_model.specs.Equality.{same}
-use Rattle.bson_value.specs.declared.value.Value.{Object}
 use Rattle.history_model.specs.Documents.{id_first}
-use Rattle.history_model.specs.Refusals.{is_there, row_at, update_of, namespace_of, document_refusal}
-use Rattle.history_model.specs.Commands.{RecordedWrite, unless_same, insert_changes, replace_changes, update_changes, under_id, document_changes, rows_of_changes, and_then, changes_together}
-use Rattle.transactions.specs.Shown.{id_in, keyed, ShowsIn, ShowAll}
-use Rattle.transactions.proofs.Refusing.{missing_refused, refused_same, changes_same, put_keyed, keyed_put}
+use Rattle.history_model.specs.Refusals.{is_there, definitions_in, row_at, update_of, namespace_of, document_refusal}
+use Rattle.history_model.specs.Commands.{RecordedWrite, unless_same, insert_changes, replace_changes, update_changes, under_id, document_changes}
+use Rattle.transaction_indexes.specs.Shown.{id_in, ShowsIn}
+use Rattle.transaction_indexes.proofs.Refusing.{missing_refused}
+use Rattle.transactions.specs.Shown.{ShowAll}
 
 -- ---- in one collection
 
@@ -47,38 +45,18 @@ drop_document_at low k j rs h = by (same_key j k) refl
     by true e = ap document_of (ap (row_of (drop_row k rs)) (key_is j k e) ∙ row_drop_here low rs k h)
     by false e = ap document_of (row_drop_else rs k j e)
 
-abbrev drop_keyed : Key → List (Key × Document) → List (Key × Document)
-drop_keyed k [] = []
-drop_keyed k (e ∷ es) = if same_key k e.0 then es else e ∷ drop_keyed k es
-
-keyed_drop : (k : Key) (rs : List Row) → keyed (drop_row k rs) ≡ drop_keyed k (keyed rs)
-keyed_drop k [] = refl
-keyed_drop k (r ∷ rs) = by (same_key k r.key) (keyed_drop k rs)
-  where
-    by : (b : Bool) → keyed (drop_row k rs) ≡ drop_keyed k (keyed rs) → keyed (if b then rs else r ∷ drop_row k rs) ≡ (if b then keyed rs else (r.key, r.document) ∷ drop_keyed k (keyed rs))
-    by true h = refl
-    by false h = ap (λ (es : List (Key × Document)). (r.key, r.document) ∷ es) h
-
-either : {A B C : Type 0} → A ⊎ B → (B → C) → A ⊎ C
-either (inl a) f = inl a
-either (inr b) f = inr (f b)
-
 put_shows : (v : Option Value) (k : Key) (d : Document) (a b : Table) → ShowsIn v (Some a) (Some b) → ShowsIn v (Some (put_table k d a)) (Some (put_table k d b))
 put_shows v k d a b h = record {
   there = refl;
-  definitions = h.definitions;
   document = λ id e.
       put_document_at a.next k (key_of id) d a.rows ∙ (ap (λ (o : Option Document). if same_key (key_of id) k then Some d else o) (h.document id e) ∙ sym (put_document_at b.next k (key_of id) d b.rows));
-  documents = either h.documents (λ e. keyed_put a.next k d a.rows ∙ (ap (put_keyed k d) e ∙ sym (keyed_put b.next k d b.rows)));
 }
 
 drop_shows : (v : Option Value) (k : Key) (a b : Table) → Rising 0 a.rows → Rising 0 b.rows → ShowsIn v (Some a) (Some b) → ShowsIn v (Some (drop_table k a)) (Some (drop_table k b))
 drop_shows v k a b r s h = record {
   there = refl;
-  definitions = h.definitions;
   document = λ id e.
       drop_document_at 0 k (key_of id) a.rows r ∙ (ap (λ (o : Option Document). if same_key (key_of id) k then None else o) (h.document id e) ∙ sym (drop_document_at 0 k (key_of id) b.rows s));
-  documents = either h.documents (λ e. keyed_drop k a.rows ∙ (ap (drop_keyed k) e ∙ sym (keyed_drop k b.rows)));
 }
 
 -- ---- in all of them
@@ -103,12 +81,12 @@ set_shows n s r x y a b v m p q g h = by (same_ns m n) refl
 
 -- ---- writes of a transaction: each puts or takes out a document of this namespace
 
-abbrev IsPlain : NsName → SingleWrite → Type 0
+abbrev pub IsPlain : NsName → SingleWrite → Type 0
 IsPlain n (writes.Put m k d) = n ≡ m
 IsPlain n (writes.Remove m k) = n ≡ m
 IsPlain n _ = ⊥
 
-abbrev ArePlain : NsName → List RecordedWrite → Type 0
+abbrev pub ArePlain : NsName → List RecordedWrite → Type 0
 ArePlain n [] = ⊤
 ArePlain n (c ∷ cs) = IsPlain n c.0 × ArePlain n cs
 
@@ -132,7 +110,7 @@ plain_under : (n : NsName) (g : Value → List RecordedWrite) (o : Option Value)
 plain_under n g None h = tt
 plain_under n g (Some v) h = h v
 
-plain_changes : (f : Form) (c : DocumentCommand) (r : Rows) → is_there (namespace_of c) r ≡ true → ArePlain (namespace_of c) (document_changes f c r)
+pub plain_changes : (f : Form) (c : DocumentCommand) (r : Rows) → is_there (namespace_of c) r ≡ true → ArePlain (namespace_of c) (document_changes f c r)
 plain_changes f (Insert n d) r e = plain_under n (λ id. insert_changes (is_there n r) n id (id_first d)) (id_of d) (λ id. plain_inserted n id (id_first d) (is_there n r) e)
 plain_changes f (Replace n d) r e = plain_under n (λ id. replace_changes n id (id_first d) (row_at n (key_of id) r)) (id_of d) (λ id. plain_replaced n id (id_first d) (row_at n (key_of id) r))
 plain_changes f (Update n id ops) r e = plain_updated f n id (row_at n (key_of id) r) (update_of (row_at n (key_of id) r) ops)
@@ -173,70 +151,38 @@ write_shows n (writes.DropDb d) s r v m p a b e f h = absurd p
 write_shows n (writes.AddIndex l d) s r v m p a b e f h = absurd p
 write_shows n (writes.DropIndex l i) s r v m p a b e f h = absurd p
 
-set_there : (m l : NsName) (ts : Tables) (t : Table) → is_some (map.get ts m) ≡ true → is_some (map.get (map.insert ts l t) m) ≡ true
-set_there m l ts t h = ap is_some (ns_at_insert ts l t m) ∙ by (same_ns m l)
-  where
-    by : (b : Bool) → is_some (cond b (Some t) (map.get ts m)) ≡ true
-    by true = refl
-    by false = h
-
-found_there : (m l : NsName) (ts : Tables) (g : Table → Table) (o : Option Table) → is_some (map.get ts m) ≡ true → is_some (map.get (on_found g l o ts) m) ≡ true
-found_there m l ts g None h = h
-found_there m l ts g (Some t) h = set_there m l ts (g t) h
-
--- and collections that are there
-write_there : (n m : NsName) (w : SingleWrite) (r : Rows) → IsPlain n w → is_there m r ≡ true → is_there m (change_rows w r) ≡ true
-write_there n m (writes.Put l k d) r p h = set_there m l r.tables (put_table k d (or_fresh r.count (map.get r.tables l))) h
-write_there n m (writes.Remove l k) r p h = found_there m l r.tables (drop_table k) (map.get r.tables l) h
-write_there n m (writes.Create l o) r p h = absurd p
-write_there n m (writes.DropColl l) r p h = absurd p
-write_there n m (writes.DropDb d) r p h = absurd p
-write_there n m (writes.AddIndex l d) r p h = absurd p
-write_there n m (writes.DropIndex l i) r p h = absurd p
-
-all_show : (n : NsName) (w : SingleWrite) (cs : List DocumentCommand) (s r : Rows) → IsPlain n w → AreSound s → AreSound r → is_there n s ≡ true → is_there n r ≡ true → ShowAll cs s r → ShowAll cs (change_rows w s) (change_rows w r)
+pub all_show : (n : NsName) (w : SingleWrite) (cs : List DocumentCommand) (s r : Rows) → IsPlain n w → AreSound s → AreSound r → is_there n s ≡ true → is_there n r ≡ true → ShowAll cs s r → ShowAll cs (change_rows w s) (change_rows w r)
 all_show n w [] s r p a b e f h = tt
 all_show n w (c ∷ cs) s r p a b e f h = (write_shows n w s r (id_in c) (namespace_of c) p a b e f h.0, all_show n w cs s r p a b e f h.1)
 
-pub record Alike (cs : List DocumentCommand) (s r : Rows) : Type 0 where
-  pub sound : AreSound s
-  pub sound_too : AreSound r
-  pub shows : ShowAll cs s r
+-- and all definitions
+set_definitions : (n m : NsName) (s : Tables) (x a : Table) → map.get s n ≡ Some a → map.entries x.indexes ≡ map.entries a.indexes → definitions_in (map.get (map.insert s n x) m) ≡ definitions_in (map.get s m)
+set_definitions n m s x a p h = by (same_ns m n) refl
+  where
+    by : (b : Bool) → same_ns m n ≡ b → definitions_in (map.get (map.insert s n x) m) ≡ definitions_in (map.get s m)
+    by true e =
+        (let one : m ≡ n = ns_is m n e in
+        ap (λ (z : NsName). definitions_in (map.get (map.insert s n x) z)) one
+        ∙ (ap definitions_in (ns_insert_here s n x) ∙ (h ∙ (ap definitions_in (sym p) ∙ ap (λ (z : NsName). definitions_in (map.get s z)) (sym one)))))
+    by false e = ap definitions_in (ns_insert_else s n x m e)
 
-changes_show : (n : NsName) (ms : List RecordedWrite) (cs : List DocumentCommand) (s r : Rows) → ArePlain n ms → is_there n s ≡ true → is_there n r ≡ true → Alike cs s r → Alike cs (rows_of_changes ms s) (rows_of_changes ms r)
-changes_show n [] cs s r p e f h = h
-changes_show n (m ∷ ms) cs s r p e f h =
-    changes_show n ms cs (change_rows m.0 s) (change_rows m.0 r) p.1 (write_there n n m.0 s p.0 e) (write_there n n m.0 r p.0 f) (record {
-      sound = change_sound m.0 s h.sound;
-      sound_too = change_sound m.0 r h.sound_too;
-      shows = all_show n m.0 cs s r p.0 h.sound h.sound_too e f h.shows;
-    })
+pub write_definitions : (n m : NsName) (w : SingleWrite) (s : Rows) → IsPlain n w → is_there n s ≡ true → definitions_in (map.get (change_rows w s).tables m) ≡ definitions_in (map.get s.tables m)
+write_definitions n m (writes.Put l k d) s p e =
+    (let t = the_table l s (subst (λ (z : NsName). is_there z s ≡ true) p e) in
+    subst (λ (o : Option Table). definitions_in (map.get (put_in l k d s o) m) ≡ definitions_in (map.get s.tables m)) (sym t.1) (set_definitions l m s.tables (put_table k d t.0) t.0 t.1 refl))
+write_definitions n m (writes.Remove l k) s p e =
+    (let t = the_table l s (subst (λ (z : NsName). is_there z s ≡ true) p e) in
+    subst (λ (o : Option Table). definitions_in (map.get (drop_in l k s o) m) ≡ definitions_in (map.get s.tables m)) (sym t.1) (set_definitions l m s.tables (drop_table k t.0) t.0 t.1 refl))
+write_definitions n m (writes.Create l o) s p e = absurd p
+write_definitions n m (writes.DropColl l) s p e = absurd p
+write_definitions n m (writes.DropDb d) s p e = absurd p
+write_definitions n m (writes.AddIndex l d) s p e = absurd p
+write_definitions n m (writes.DropIndex l i) s p e = absurd p
 
--- ---- a transaction
-
-none_there : (c : DocumentCommand) (r : Rows) → document_refusal true c r ≡ None → is_there (namespace_of c) r ≡ true
+-- a command that isn't refused is of a collection that is there
+pub none_there : (c : DocumentCommand) (r : Rows) → document_refusal true c r ≡ None → is_there (namespace_of c) r ≡ true
 none_there c r h = by (is_there (namespace_of c) r) refl
   where
     by : (b : Bool) → is_there (namespace_of c) r ≡ b → is_there (namespace_of c) r ≡ true
     by true e = e
     by false e = (let f = sym (missing_refused c r e) ∙ h in cc)
-
-pub same_together : (f : Form) (cs : List DocumentCommand) (s r : Rows) → Alike cs s r → changes_together f cs s ≡ changes_together f cs r
-same_together f [] s r h = refl
-same_together f (c ∷ cs) s r h =
-    (let e = refused_same c s r h.shows.0 in
-    let g = changes_same f c s r h.shows.0 in
-    by e g (document_refusal true c r) refl (λ z. same_together f cs (rows_of_changes (document_changes f c r) s) (rows_of_changes (document_changes f c r) r)
-    (changes_show (namespace_of c) (document_changes f c r) cs s r (plain_changes f c r (none_there c r z)) (none_there c s (e ∙ z)) (none_there c r z) (record { sound = h.sound; sound_too = h.sound_too; shows = h.shows.1 }))))
-  where
-    by : document_refusal true c s ≡ document_refusal true c r → document_changes f c s ≡ document_changes f c r → (x : Option Refused) → document_refusal true c r ≡ x →
-        (x ≡ None → changes_together f cs (rows_of_changes (document_changes f c r) s) ≡ changes_together f cs (rows_of_changes (document_changes f c r) r)) →
-        and_then (document_refusal true c s) (document_changes f c s) (changes_together f cs (rows_of_changes (document_changes f c s) s)) ≡ and_then (document_refusal true c r) (document_changes f c r) (changes_together f cs (rows_of_changes (document_changes f c r) r))
-    by e g (Some x) z rest =
-        ap (λ (o : Option Refused). and_then o (document_changes f c s) (changes_together f cs (rows_of_changes (document_changes f c s) s))) (e ∙ z)
-        ∙ sym (ap (λ (o : Option Refused). and_then o (document_changes f c r) (changes_together f cs (rows_of_changes (document_changes f c r) r))) z)
-    by e g None z rest =
-        (λ i. and_then (e i) (g i) (changes_together f cs (rows_of_changes (g i) s))) ∙ ap (and_then (document_refusal true c r) (document_changes f c r)) (rest refl)
-
-pub alike : (cs : List DocumentCommand) (s r : Rows) → AreSound s → AreSound r → ShowAll cs s r → Alike cs s r
-alike cs s r a b h = record { sound = a; sound_too = b; shows = h }
