@@ -1,43 +1,89 @@
 //! Checksums, headers of blocks, and blocks of the namespace `a.b`.
-use crate::texts::{numbers, words, written};
+ghost use Rattle.std.specs.Prelude.{◌≡◌, ℕ, List, Ok, IfOk, false, string_bytes};
+ghost use Rattle.std.specs.Fmt.{radix_digits};
+ghost use Rattle.hex.specs.Hex.{decode_of};
+ghost use Rattle.row_script.specs.Rows.{behind_blank};
+ghost use Rattle.archive_format.specs.Archive.{fields_of};
+ghost use Rattle.archive_format.specs.Crc.{crc_of};
+ghost use Rattle.archive_format.specs.Shapes.{ShapeFault, named};
+ghost use Rattle.archive_format.specs.Written.{begun};
+ghost use Rattle.archive_blocks.specs.Heads.{IsHeadFault};
+ghost use Rattle.archive_rows.specs.Rows.{AreDocuments, TellsWritten, Writes, crc_text, head_answer_in, head_line, namespace_text, own_namespace, shape_word};
+
+use crate::texts::{numbers, written};
 use anyhow::Result;
-use archive_blocks::{BlockWriter, Crc, read_ns_head};
+use archive_blocks::{BlockWriter, Crc, HeadFault, NsHead, read_ns_head};
 use bson_check::{MAX_DOCUMENT_BYTES, check};
 use bson_value::{Bytes, List, NsName, Text};
+use row_script::{answer, bytes, words};
 use std::alloc::{AllocError, Global};
 use tool_io::{Fault, MemSink};
 
 /// The checksum of bytes.
-pub fn sum(alloc: Global, text: &str) -> Result<String> {
+#[tactic(auto, unfolding(archive_format::specs::Crc::crc_of))]
+pub fn sum(alloc: Global, text: &str) -> Result<String>
+    ensures { IfOk result (λ answer. (bytes : List ℕ) × (decode_of text.now ≡ Ok bytes) × (string_bytes answer ≡ radix_digits 16 false (crc_of bytes))) }
+{
     let mut crc = Crc::new();
-    if !text.is_empty() {
-        crc.add(&hex::decode(alloc, text)?);
-    }
+    crc.add(&bytes(alloc, text)?);
     let sum = crc.sum();
     Ok(format!(in alloc; "{sum:x}")?)
 }
 
+fn crc_text(alloc: Global, crc: Option<i64>) -> Result<String, AllocError>
+    ensures { IfOk result (λ text. string_bytes text ≡ crc_text crc) }
+{
+    match crc {
+        Some(crc) => format!(in alloc; "{crc}"),
+        None => String::from_str(alloc, "none"),
+    }
+}
+
+// What a header says.
+fn head_line(alloc: Global, head: NsHead<'_>) -> Result<String, AllocError>
+    ensures { IfOk result (λ text. string_bytes text
+        ≡ head_line (record { ns = named head.entry.db.now head.entry.coll.now; eof = head.entry.eof; crc = head.entry.crc })) }
+{
+    let crc = crc_text(alloc, head.crc)?;
+    format!(in alloc; "{}.{} {} {crc}", head.db, head.coll, head.eof)
+}
+
+// Why a document is no header, in a word.
+fn shape_word(fault: HeadFault) -> &'static str
+    ensures { (shape : ShapeFault) → IsHeadFault fault (Some shape) → result.now ≡ shape_word shape }
+{
+    match fault {
+        HeadFault::MissingField => "MissingField",
+        HeadFault::WrongType => "WrongType",
+        HeadFault::BadNs => "BadNs",
+    }
+}
+
 // The header that a document is, or its first fault.
 #[tactic(auto, unfolding(archive_format::specs::Archive::fault_in, archive_format::specs::Archive::fields_of, bson_check::specs::Faults::first_fault))]
-fn head_text(alloc: Global, bytes: &[u8]) -> Result<String, AllocError> {
+fn head_text(alloc: Global, bytes: &[u8]) -> Result<String, AllocError>
+    ensures { IfOk result (λ answer. string_bytes answer ≡ head_answer_in (fields_of bytes.now)) }
+{
     match check(bytes, MAX_DOCUMENT_BYTES, 200) {
         Err(_) => String::from_str(alloc, "no document"),
         Ok(()) => match read_ns_head(bytes) {
-            Ok(head) => {
-                format!(in alloc; "{}.{} {} {:?}", head.db, head.coll, head.eof, head.crc)
-            }
-            Err(fault) => format!(in alloc; "{fault:?}"),
+            Ok(head) => head_line(alloc, head),
+            Err(fault) => String::from_str(alloc, shape_word(fault)),
         },
     }
 }
 
 /// The header of a block.
-pub fn head(alloc: Global, text: &str) -> Result<String> {
-    let bytes = hex::decode(alloc, text)?;
+pub fn head(alloc: Global, text: &str) -> Result<String>
+    ensures { IfOk result (λ answer. (bytes : List ℕ) × (decode_of text.now ≡ Ok bytes) × (string_bytes answer ≡ head_answer_in (fields_of bytes))) }
+{
+    let bytes = bytes(alloc, text)?;
     Ok(head_text(alloc, &bytes)?)
 }
 
-fn writer(alloc: Global) -> Result<BlockWriter, AllocError> {
+fn writer(alloc: Global) -> Result<BlockWriter, AllocError>
+    ensures { IfOk result (λ writer. writer ≡ begun own_namespace) }
+{
     let ns = NsName {
         db: Text::of(alloc, "a")?,
         coll: Text::of(alloc, "b")?,
@@ -46,25 +92,30 @@ fn writer(alloc: Global) -> Result<BlockWriter, AllocError> {
 }
 
 // The block of the documents, and the end behind it.
-fn write(alloc: Global, docs: &List<Bytes>, sink: &mut MemSink) -> Result<Result<(), Fault>> {
+fn write(alloc: Global, docs: &List<Bytes>, sink: &mut MemSink) -> Result<Result<(), Fault>>
+    ensures { IfOk result (λ answer. Writes answer sink.old.written sink.new.written (namespace_text docs.now)) }
+{
     let mut writer = writer(alloc)?;
-    let answer = writer.block(docs, sink);
-    if answer.is_err() {
-        return Ok(answer);
+    match writer.block(docs, sink) {
+        Ok(()) => Ok(writer.end(sink)),
+        Err(fault) => Ok(Err(fault)),
     }
-    Ok(writer.end(sink))
 }
 
-fn documents(alloc: Global, text: &str) -> Result<List<Bytes>> {
+fn documents(alloc: Global, text: &str) -> Result<List<Bytes>>
+    ensures { IfOk result (λ docs. AreDocuments text.now docs) }
+{
     let mut docs = List::new(alloc);
     if !text.is_empty() {
-        docs.push(Bytes::from_vec(hex::decode(alloc, text)?))?;
+        docs.push(Bytes::from_vec(bytes(alloc, text)?))?;
     }
     Ok(docs)
 }
 
 /// A block of the document, or of none, and the end behind it, where these calls of the sink fail.
-pub fn blocks(alloc: Global, text: &str) -> Result<String> {
+pub fn blocks(alloc: Global, text: &str) -> Result<String>
+    ensures { IfOk result (λ answer. (docs : List (List ℕ)) × AreDocuments (behind_blank text.now) docs × TellsWritten (namespace_text docs) (string_bytes answer)) }
+{
     let (fails, docs) = words(text)?;
     let mut sink = MemSink::new(alloc, numbers(alloc, fails)?);
     let answer = write(alloc, &documents(alloc, docs)?, &mut sink)?;

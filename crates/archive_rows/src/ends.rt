@@ -1,7 +1,7 @@
 //! Ends in memory and over the streams of std. Each row makes an end, and calls it as often as it says.
 use crate::halting::Halting;
-use crate::texts::{answer, words};
 use anyhow::Result;
+use row_script::{answer, bytes, digits, number, words};
 use std::alloc::Global;
 use tool_io::{MemSink, MemSource, Sink, Source, StdSink, StdSource};
 
@@ -10,7 +10,7 @@ fn read<S: Source>(alloc: Global, source: &mut S) -> Result<String> {
     let mut buf = [0u8; 8];
     match source.read(&mut buf) {
         Ok(0) => answer(alloc, "end"),
-        Ok(count) => Ok(hex::encode(alloc, &buf[..count])?),
+        Ok(count) => digits(alloc, &buf[..count]),
         Err(_) => answer(alloc, "fault"),
     }
 }
@@ -27,19 +27,19 @@ fn reads<S: Source>(alloc: Global, source: &mut S) -> Result<String> {
 
 /// What is read of a source in memory that gives two bytes and then nine, and whose call of this number fails.
 pub fn source(alloc: Global, text: &str) -> Result<String> {
-    let (call, bytes) = words(text)?;
+    let (call, text) = words(text)?;
     let fails = vec![in alloc; call.parse::<u64>()?]?;
     let pieces = [2, 9].to_vec(alloc)?;
     reads(
         alloc,
-        &mut MemSource::new(hex::decode(alloc, bytes)?, pieces, fails),
+        &mut MemSource::new(bytes(alloc, text)?, pieces, fails),
     )
 }
 
 /// What is read of a standard source that gives two bytes a call, and whose call of this number fails.
 pub fn standard_source(alloc: Global, text: &str) -> Result<String> {
-    let (call, bytes) = words(text)?;
-    let halting = Halting::new(hex::decode(alloc, bytes)?, call.parse::<usize>()?);
+    let (call, text) = words(text)?;
+    let halting = Halting::new(bytes(alloc, text)?, number(call)?);
     reads(alloc, &mut StdSource::new(halting))
 }
 
@@ -65,7 +65,7 @@ pub fn sink(alloc: Global, text: &str) -> Result<String> {
 /// Which words a standard sink takes of two bytes a call, whose call of this number fails, and what it keeps.
 pub fn standard_sink(alloc: Global, text: &str) -> Result<String> {
     let (call, text) = words(text)?;
-    let mut writer = Halting::new(Vec::new(alloc), call.parse::<usize>()?);
+    let mut writer = Halting::new(Vec::new(alloc), number(call)?);
     let told = writes(alloc, &mut StdSink::new(&mut writer), text)?;
     let kept = std::str::from_utf8(&writer.held)?;
     Ok(format!(in alloc; "{told}{kept}")?)

@@ -11,8 +11,8 @@ mod ring;
 mod texts;
 
 use crate::ring::Ring;
-use anyhow::{Result, bail};
-use row_script::Respondent;
+use anyhow::Result;
+use row_script::{Respondent, refused};
 use std::alloc::Global;
 use std::io::BufWriter;
 
@@ -43,7 +43,7 @@ impl Respondent for ArchiveRows {
             "sink" => ends::sink(alloc, text),
             "standard_sink" => ends::standard_sink(alloc, text),
             "full_sink" => ends::full_sink(alloc, text),
-            _ => bail!("no verb"),
+            _ => refused("no verb"),
         }
     }
 }

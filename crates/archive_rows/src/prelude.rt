@@ -1,14 +1,24 @@
 //! Preludes of the versions 0.0.0, and their documents.
-use crate::texts::{answer, numbers, words, written};
-use anyhow::{Result, bail};
-use archive_prelude::{Meta, Prelude, read_header, read_meta, write};
+ghost use Rattle.std.specs.Prelude.{◌≡◌, [], ◌∷◌, ◌++◌, Option, IfOk, OnOk, codes, string_bytes};
+ghost use Rattle.row_script.specs.Rows.{before_blank};
+ghost use Rattle.archive_format.specs.Shapes.{ShapeFault, header_fault, meta_of};
+ghost use Rattle.archive_format.specs.Written.{prelude_text};
+ghost use Rattle.archive_prelude.specs.Faults.{IsPreludeFault};
+ghost use Rattle.archive_rows.specs.Rows.{Document, TellsWritten, Write, Writes, meta_answer, metas_named, ns_text, own_header, own_namespace, shape_answer};
+
+use crate::texts::{numbers, written};
+use anyhow::Result;
+use archive_prelude::{Meta, Prelude, PreludeFault, read_header, read_meta, write};
 use bson_check::MAX_DOCUMENT_BYTES;
 use bson_core::decode;
 use bson_value::{Doc, List, NsName, Text};
-use std::alloc::Global;
+use row_script::{answer, bytes, refused, words};
+use std::alloc::{AllocError, Global};
 use tool_io::{Fault, MemSink};
 
-fn write_bare(alloc: Global, sink: &mut MemSink) -> Result<Result<(), Fault>> {
+fn write_bare(alloc: Global, sink: &mut MemSink) -> Result<Result<(), Fault>>
+    ensures { IfOk result (λ answer. Writes answer sink.old.written sink.new.written (prelude_text own_header [])) }
+{
     let prelude = Prelude {
         concurrent: 1,
         server: Text::of(alloc, "0.0.0")?,
@@ -18,7 +28,9 @@ fn write_bare(alloc: Global, sink: &mut MemSink) -> Result<Result<(), Fault>> {
     Ok(write(alloc, &prelude, sink))
 }
 
-fn write_with_metadata(alloc: Global, sink: &mut MemSink) -> Result<Result<(), Fault>> {
+fn write_with_metadata(alloc: Global, sink: &mut MemSink) -> Result<Result<(), Fault>>
+    ensures { IfOk result (λ answer. Writes answer sink.old.written sink.new.written (prelude_text own_header (record { ns = own_namespace; text = codes "{}" } ∷ []))) }
+{
     let ns = NsName {
         db: Text::of(alloc, "a")?,
         coll: Text::of(alloc, "b")?,
@@ -35,35 +47,76 @@ fn write_with_metadata(alloc: Global, sink: &mut MemSink) -> Result<Result<(), F
     Ok(write(alloc, &prelude, sink))
 }
 
+// A prelude without metadata, or with them.
+fn write_named(alloc: Global, name: &str, sink: &mut MemSink) -> Result<Result<(), Fault>>
+    ensures { IfOk result (λ answer. Writes answer sink.old.written sink.new.written (prelude_text own_header (metas_named name.now))) }
+{
+    if name == "bare" {
+        write_bare(alloc, sink)
+    } else {
+        write_with_metadata(alloc, sink)
+    }
+}
+
 /// A prelude without metadata, or with those of `a.b` and the text `{}`, where these calls of the sink fail.
-pub fn prelude(alloc: Global, text: &str) -> Result<String> {
+pub fn prelude(alloc: Global, text: &str) -> Result<String>
+    ensures { IfOk result (λ answer. TellsWritten (prelude_text own_header (metas_named (before_blank text.now))) (string_bytes answer)) }
+{
     let (metadata, fails) = words(text)?;
     let mut sink = MemSink::new(alloc, numbers(alloc, fails)?);
-    let answer = if metadata == "bare" {
-        write_bare(alloc, &mut sink)?
-    } else {
-        write_with_metadata(alloc, &mut sink)?
-    };
+    let answer = write_named(alloc, metadata, &mut sink)?;
     written(alloc, answer, &sink)
 }
 
-fn document(alloc: Global, text: &str) -> Result<Doc> {
-    match decode(alloc, &hex::decode(alloc, text)?, MAX_DOCUMENT_BYTES, 200) {
+// The document that the digits write.
+#[tactic(auto, unfolding(crate::specs::Rows::Write))]
+fn document(alloc: Global, text: &str) -> Result<Doc>
+    ensures { IfOk result (λ doc. Write text.now doc) }
+{
+    match decode(alloc, &bytes(alloc, text)?, MAX_DOCUMENT_BYTES, 200) {
         Ok(doc) => Ok(doc),
-        Err(_) => bail!("no document"),
+        Err(_) => refused("no document"),
+    }
+}
+
+// Why a document has another shape.
+fn fault_text(alloc: Global, fault: PreludeFault) -> Result<String>
+    ensures told { IfOk result (λ answer. (shape : Option ShapeFault) → IsPreludeFault fault shape → string_bytes answer ≡ shape_answer shape) }
+    ensures memory { OnOk result (fault ≡ PreludeFault.NoMemory → ⊥) }
+{
+    match fault {
+        PreludeFault::MissingField(name) => {
+            Ok(format!(in alloc; "MissingField {}", name.as_str())?)
+        }
+        PreludeFault::WrongType(name) => Ok(format!(in alloc; "WrongType {}", name.as_str())?),
+        PreludeFault::Version(version) => Ok(format!(in alloc; "Version {}", version.as_str())?),
+        PreludeFault::BadNs => answer(alloc, "BadNs"),
+        PreludeFault::NoMemory => Err(AllocError)?,
     }
 }
 
 /// Whether a document is a header, or its first fault.
-pub fn header(alloc: Global, text: &str) -> Result<String> {
+pub fn header(alloc: Global, text: &str) -> Result<String>
+    ensures { IfOk result (λ answer. (doc : Document) × Write text.now doc × (string_bytes answer ≡ shape_answer (header_fault doc))) }
+{
     match read_header(alloc, &document(alloc, text)?) {
         Ok(()) => answer(alloc, "ok"),
-        Err(fault) => Ok(format!(in alloc; "{fault:?}")?),
+        Err(fault) => fault_text(alloc, fault),
     }
 }
 
+fn meta_text(alloc: Global, ns: &NsName, text: &Text) -> Result<String>
+    ensures { IfOk result (λ answer. string_bytes answer ≡ ns_text ns.now ++ codes " " ++ text.now) }
+{
+    Ok(format!(in alloc; "{}.{} {}", ns.db.as_str(), ns.coll.as_str(), text.as_str())?)
+}
+
 /// The metadata that a document is, or its first fault.
-pub fn metadata(alloc: Global, text: &str) -> Result<String> {
-    let meta = read_meta(alloc, &document(alloc, text)?);
-    Ok(format!(in alloc; "{meta:?}")?)
+pub fn metadata(alloc: Global, text: &str) -> Result<String>
+    ensures { IfOk result (λ answer. (doc : Document) × Write text.now doc × (string_bytes answer ≡ meta_answer (meta_of doc))) }
+{
+    match read_meta(alloc, &document(alloc, text)?) {
+        Ok(Meta { ns, text }) => meta_text(alloc, &ns, &text),
+        Err(fault) => fault_text(alloc, fault),
+    }
 }

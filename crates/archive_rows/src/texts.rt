@@ -1,18 +1,11 @@
 //! Words of a row, and answers.
-use anyhow::{Result, bail};
-use std::alloc::Global;
+ghost use Rattle.std.specs.Prelude.{◌≡◌, IfOk, string_bytes};
+ghost use Rattle.archive_rows.specs.Rows.{written_text};
+
+use anyhow::Result;
+use row_script::digits;
+use std::alloc::{AllocError, Global};
 use tool_io::{Fault, MemSink};
-
-pub fn words(text: &str) -> Result<(&str, &str)> {
-    match text.split_once(' ') {
-        Some(words) => Ok(words),
-        None => bail!("one word"),
-    }
-}
-
-pub fn answer(alloc: Global, text: &str) -> Result<String> {
-    Ok(String::from_str(alloc, text)?)
-}
 
 /// The numbers of a list with commas; a dash is the empty list.
 pub fn numbers(alloc: Global, text: &str) -> Result<Vec<u64>> {
@@ -27,10 +20,13 @@ pub fn numbers(alloc: Global, text: &str) -> Result<Vec<u64>> {
 }
 
 /// What was written, and whether there was a fault.
-pub fn written(alloc: Global, answer: Result<(), Fault>, sink: &MemSink) -> Result<String> {
-    let bytes = hex::encode(alloc, sink.written())?;
+pub fn written(alloc: Global, answer: Result<(), Fault>, sink: &MemSink) -> Result<String>
+    ensures { IfOk result (λ text. string_bytes text ≡ written_text answer sink.now.written) }
+{
+    let bytes = digits(alloc, sink.written())?;
     match answer {
         Ok(()) => Ok(bytes),
-        Err(_) => Ok(format!(in alloc; "fault behind {bytes}")?),
+        Err(Fault::Failed) => Ok(format!(in alloc; "fault behind {bytes}")?),
+        Err(Fault::NoMemory) => Err(AllocError)?,
     }
 }

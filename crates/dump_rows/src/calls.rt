@@ -7,14 +7,15 @@
 //! - `start`, `copy NS N`, `mark`, `tail N`, `finish`: the calls of a dump; `wrote`: how many bytes it has written.
 //! - `recorded`: how many entries the store has recorded.
 //! - `restore`, `replay`: what the program tells on its report of a restore of these bytes, or how many bytes it lists.
+use crate::answers;
 use anyhow::{Result, bail};
 use bson_value::NsName;
-use dump_run::{Dump, DumpFault};
+use dump_run::Dump;
 use row_script::Respondent;
 use schedule_model::Line;
 use schedule_text::Schedule;
 use std::alloc::Global;
-use store_core::{Store, StoreFault};
+use store_core::Store;
 use tool_io::{MemSink, MemSource};
 use tools_cli::tools;
 
@@ -24,13 +25,6 @@ pub struct Calls {
     store: Store,
     sink: MemSink,
     dump: Option<Dump>,
-}
-
-fn told(alloc: Global, answer: std::result::Result<(), DumpFault>) -> Result<String> {
-    match answer {
-        Ok(()) => Ok(String::from_str(alloc, "done")?),
-        Err(fault) => Ok(format!(in alloc; "{fault:?}")?),
-    }
 }
 
 fn number(text: &str) -> Result<u32> {
@@ -104,20 +98,16 @@ impl Calls {
         if checked != applied {
             return Ok(String::from_str(alloc, "two answers")?);
         }
-        match applied {
-            Ok(entries) => Ok(format!(in alloc; "{entries}")?),
-            Err(StoreFault::Refused(refused)) => Ok(format!(in alloc; "{refused:?}")?),
-            Err(StoreFault::NoMemory) => bail!("no memory"),
-        }
+        answers::command(alloc, applied)
     }
 
     fn start(&mut self, alloc: Global) -> Result<String> {
         match Dump::start(alloc, &self.store, &mut self.sink) {
             Ok(dump) => {
                 self.dump = Some(dump);
-                told(alloc, Ok(()))
+                answers::step(alloc, Ok(()))
             }
-            Err(fault) => told(alloc, Err(fault)),
+            Err(fault) => answers::step(alloc, Err(fault)),
         }
     }
 
@@ -130,35 +120,28 @@ impl Calls {
         let Some(dump) = &mut self.dump else {
             bail!("no dump");
         };
-        told(alloc, dump.copy(&self.store, &ns, count, &mut self.sink))
+        answers::step(alloc, dump.copy(&self.store, &ns, count, &mut self.sink))
     }
 
     fn mark(&mut self, alloc: Global) -> Result<String> {
         let Some(dump) = &mut self.dump else {
             bail!("no dump");
         };
-        told(alloc, dump.mark(&self.store))
+        answers::step(alloc, dump.mark(&self.store))
     }
 
     fn tail(&mut self, alloc: Global, count: u32) -> Result<String> {
         let Some(dump) = &mut self.dump else {
             bail!("no dump");
         };
-        told(alloc, dump.tail(&self.store, count, &mut self.sink))
+        answers::step(alloc, dump.tail(&self.store, count, &mut self.sink))
     }
 
     fn finish(&mut self, alloc: Global) -> Result<String> {
         let Some(dump) = &mut self.dump else {
             bail!("no dump");
         };
-        match dump.finish(&self.store, &mut self.sink) {
-            Ok(report) => {
-                let documents = report.documents;
-                let entries = report.entries;
-                Ok(format!(in alloc; "{documents} documents {entries} entries")?)
-            }
-            Err(fault) => told(alloc, Err(fault)),
-        }
+        answers::finish(alloc, dump.finish(&self.store, &mut self.sink))
     }
 }
 
@@ -170,26 +153,20 @@ impl Respondent for Calls {
                 self.store = Store::new(alloc, cap, None)?;
                 self.sink = sink(alloc, None)?;
                 self.dump = None;
-                told(alloc, Ok(()))
+                answers::step(alloc, Ok(()))
             }
             "fail" => {
                 self.sink = sink(alloc, Some(text.parse::<u64>()?))?;
-                told(alloc, Ok(()))
+                answers::step(alloc, Ok(()))
             }
             "do" => self.command(alloc, text),
-            "recorded" => {
-                let recorded = self.store.recorded();
-                Ok(format!(in alloc; "{recorded}")?)
-            }
+            "recorded" => answers::count(alloc, self.store.recorded()),
             "start" => self.start(alloc),
             "copy" => self.copy(alloc, text),
             "mark" => self.mark(alloc),
             "tail" => self.tail(alloc, number(text)?),
             "finish" => self.finish(alloc),
-            "wrote" => {
-                let length = self.sink.written().len();
-                Ok(format!(in alloc; "{length}")?)
-            }
+            "wrote" => answers::count(alloc, self.sink.written().len() as u64),
             "restore" => restored(alloc, self.sink.written(), false),
             "replay" => restored(alloc, self.sink.written(), true),
             _ => bail!("no call: {verb}"),

@@ -1,6 +1,7 @@
 //! Worked rows of a store and of a dump, call by call: the verbs that `stdin` asks by.
 #![tactic(auto)]
 
+mod answers;
 mod calls;
 
 use crate::calls::Calls;

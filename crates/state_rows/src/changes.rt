@@ -1,6 +1,6 @@
 //! Several changes at once.
-ghost use Rattle.std.specs.Prelude.{IsTrue};
-ghost use Rattle.coll_state.specs.ChangeAll.{HasId};
+ghost use Rattle.std.specs.Prelude.{◌≡◌, [], ◌∷◌, IsTrue, OnOk};
+ghost use Rattle.coll_state.specs.ChangeAll.{HasId, change_all};
 
 use anyhow::Result;
 use bson_value::List;
@@ -22,7 +22,9 @@ fn is_own(change: &Change) -> bool
 }
 
 /// Makes two changes of collections that are there.
-pub fn change(state: &mut State, alloc: Global, first: Change, second: Change) -> Result<()> {
+pub fn change(state: &mut State, alloc: Global, first: Change, second: Change) -> Result<()>
+    ensures { OnOk result (state.new ≡ change_all (first ∷ second ∷ []) state.old) }
+{
     if !is_own(&first) || !is_own(&second) || !state.has(&first.ns) || !state.has(&second.ns) {
         return refused("no such changes");
     }

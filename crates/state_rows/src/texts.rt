@@ -1,4 +1,7 @@
 //! Namespaces, values and documents from texts.
+ghost use Rattle.std.specs.Prelude.{IfOk};
+ghost use Rattle.state_rows.specs.Rows.{Names, Write, WriteValue};
+
 use anyhow::Result;
 use bson_value::{CText, Doc, NsName, Value};
 use extjson::value_of;
@@ -6,7 +9,10 @@ use json_text::parse;
 use row_script::refused;
 use std::alloc::Global;
 
-pub fn namespace(alloc: Global, text: &str) -> Result<NsName> {
+/// The collection that the text names.
+pub fn namespace(alloc: Global, text: &str) -> Result<NsName>
+    ensures { IfOk result (λ ns. Names text.now ns) }
+{
     match NsName::split(alloc, text)? {
         Some(ns) => Ok(ns),
         None => refused("no namespace"),
@@ -14,12 +20,17 @@ pub fn namespace(alloc: Global, text: &str) -> Result<NsName> {
 }
 
 /// The value that the text writes.
-pub fn value(alloc: Global, text: &str) -> Result<Value> {
+#[tactic(auto, unfolding(crate::specs::Rows::WriteValue))]
+pub fn value(alloc: Global, text: &str) -> Result<Value>
+    ensures { IfOk result (λ value. WriteValue text.now value) }
+{
     Ok(value_of(alloc, &parse(alloc, text)?)?)
 }
 
 /// The document that the text writes.
-pub fn document(alloc: Global, text: &str) -> Result<Doc> {
+pub fn document(alloc: Global, text: &str) -> Result<Doc>
+    ensures { IfOk result (λ doc. Write text.now doc) }
+{
     match value(alloc, text)? {
         Value::Object(doc) => Ok(doc),
         _ => refused("no document"),

@@ -1,0 +1,3 @@
+pub mod Heads
+pub mod Shapes
+pub mod Writing

@@ -1,0 +1,45 @@
+-- What rows write, and what they show of collections.
+use Rattle.std.specs.Prelude.{◌≡◌, ◌++◌, ℕ, List, Bool, Option, None, Some, Ok, codes, flat_map, is_some, if◌then◌else◌}
+use Rattle.std.specs.FinMap as map
+use Rattle.json_tree.specs.declared.tree.Tree.{Tree}
+use Rattle.json_text.specs.Print.{text_of}
+use Rattle.json_text.specs.Reading.{tree_of_text}
+use Rattle.extjson.specs.Values.{value_of}
+use Rattle.bson_value.specs.Namespace.{IsSplit}
+use Rattle.bson_value.specs.declared.namespace.NsName.{NsName}
+use Rattle.bson_value.specs.declared.value.Value.{Value}
+use Rattle.bson_value.specs.declared.value.Value.TheVariants.{Object}
+use Rattle.coll_state.specs.Kept.{is_short}
+use Rattle.coll_state.specs.Rows.{Document, Table}
+
+-- a text names a collection
+abbrev pub Names : List ℕ → NsName → Type 0
+Names text ns = IsSplit text ns.db ns.coll
+
+-- a text writes a value
+unfoldable pub WriteValue : List ℕ → Value → Type 0
+WriteValue text value = (tree : Tree) × (tree_of_text text ≡ Ok tree) × (value_of tree ≡ Ok value)
+
+-- a text writes a document
+abbrev pub Write : List ℕ → Document → Type 0
+Write text doc = WriteValue text (Object doc)
+
+abbrev pub truth_text : Bool → List ℕ
+truth_text is_so = if is_so then codes "yes" else codes "no"
+
+-- how a document is held
+abbrev pub kind_text : Option Document → List ℕ
+kind_text None = codes "none"
+kind_text (Some doc) = if is_short doc then codes "spelled" else codes "built"
+
+-- how a document is held, and whether there is a copy of it
+abbrev pub held_text : Option Document → List ℕ
+held_text doc = kind_text doc ++ codes " " ++ (if is_some doc then codes "true" else codes "false")
+
+abbrev pub definition_text : Tree → List ℕ
+definition_text def = codes " " ++ text_of def
+
+-- the options of a collection, and its definitions in the order of their names
+abbrev pub collection_text : Option Table → List ℕ
+collection_text None = codes "none"
+collection_text (Some t) = text_of t.options ++ flat_map definition_text (map.values t.indexes)
