@@ -60,9 +60,16 @@ fn settled(
 ) -> Result<Answer, AllocError>
     ensures { result ≡ settled answer refused }
 {
-    match refused? {
-        Some(refused) => Ok(Err(refused)),
-        None => Ok(answer),
+    match refused {
+        Ok(None) => Ok(answer),
+        Ok(Some(refused)) => {
+            drop(answer);
+            Ok(Err(refused))
+        }
+        Err(fault) => {
+            drop(answer);
+            Err(fault)
+        }
     }
 }
 
