@@ -66,7 +66,8 @@ impl Collections {
     {
         let (name, json) = words(text)?;
         let ns = namespace(alloc, name)?;
-        self.state.add_index(&ns, definition(alloc, json)?)?;
+        let def = definition(alloc, json)?;
+        self.state.add_index(&ns, def)?;
         answer(alloc, "")
     }
 
@@ -75,10 +76,13 @@ impl Collections {
         ensures { OnOk result ((ns : Name) × (doc : Document) × Names (before_blank text.now) ns × Write (behind_blank text.now) doc
             × (self.new.state ≡ put ns doc self.old.state)) }
     {
+        if self.state.count() >= COUNT_LIMIT {
+            return refused("too many documents");
+        }
         let (name, json) = words(text)?;
         let ns = namespace(alloc, name)?;
         let doc = document(alloc, json)?;
-        if doc.get("_id").is_none() || self.state.count() >= COUNT_LIMIT {
+        if doc.get("_id").is_none() {
             return refused("no _id");
         }
         self.state.put(alloc, &ns, doc)?;
