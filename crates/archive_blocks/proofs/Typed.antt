@@ -12,7 +12,7 @@ use Rattle.bson_value.specs.declared.value.Value.TheOpen.{Value-F}
 use Rattle.bson_check.specs.Reading.{number, text_at}
 use Rattle.bson_check.specs.Spells.{IsCount, IsString, IsSigned, Spells, type_byte, AreBytesOf, IsDocument, IsArray}
 use Rattle.bson_check.specs.declared.fault.BsonFault.{BsonFault}
-use Rattle.bson_check.proofs.Whole.{read_is_spelled}
+use Rattle.bson_check.proofs.Whole.{read_is_spelled, no_fault as read_ok}
 use Rattle.bson_check.proofs.Cutting.{Begins}
 use Rattle.archive_format.specs.Shapes.{Shaped, wrong_type, ◌>>=◌, string_in, bool_in, long_in, string_of, long_of, bool_of, field, crc_told, db_name, collection_name, eof_name, crc_name, named, of_namespace, ns_head_of, Head}
 use Rattle.archive_format.specs.Archive.{fields_of, fault_in, head_in, head_fault_in}
@@ -151,10 +151,6 @@ pub record Body (b : List ℕ) : Type 0 where
   pub read : fields_of b ≡ Ok fields
   pub spells : SpellFields levels (take (length b - 1 - 4) (drop 4 b)) fields
   pub long : 5 ≤ length b
-
-read_ok : (r : Result (List (List ℕ × Value)) BsonFault) → result_err r ≡ None → (fs : List (List ℕ × Value)) × (r ≡ Ok fs)
-read_ok (Ok fs) h = (fs, refl)
-read_ok (Err e) h = absurd cc
 
 body_by : (b : List ℕ) (fs : List (List ℕ × Value)) (n : ℕ) → fields_of b ≡ Ok fs → IsDocument n b fs → Body b
 unfolding IsDocument

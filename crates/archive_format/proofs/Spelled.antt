@@ -13,7 +13,7 @@ use Rattle.bson_value.specs.declared.value.Value.{Value, Value-F, out-Value, out
 use Rattle.bson_value.specs.declared.value.Value.TheVariants.{Str, Int, Long, Bool, rolls-Str, rolls-Int, rolls-Long, rolls-Bool}
 use Rattle.bson_value.specs.Levels.{levels_of, levels_in, levels_step}
 use Rattle.bson_value.specs.Spelling.{Typed, spelling, spelling_step, spelled, element, elements_of, document_text}
-use Rattle.bson_value.proofs.Sizes.{document_length}
+use Rattle.bson_value.proofs.Sizes.{document_length, levels-str, spelled-str}
 use Rattle.bson_check.specs.Spells.{IsName}
 use Rattle.bson_check.proofs.Whole.{spelled_is_read}
 use Rattle.bson_value.specs.WellFormed.{IsWellFormedDocument}
@@ -38,10 +38,6 @@ long_out z = ap out-Value (sym (rolls-Long z)) ∙ out-roll-Value (Value-F.Long 
 bool_out : (b : Truth) → out-Value (Bool b) ≡ Value-F.Bool b
 bool_out b = ap out-Value (sym (rolls-Bool b)) ∙ out-roll-Value (Value-F.Bool b)
 
-str_level : (t : List ℕ) → levels_in (Str t) ≡ 0
-unfolding levels_in
-str_level t = ap levels_in (sym (rolls-Str t)) ∙ fold-roll-Value ℕ levels_step (Value-F.Str t)
-
 int_level : (z : ℤ) → levels_in (Int z) ≡ 0
 unfolding levels_in
 int_level z = ap levels_in (sym (rolls-Int z)) ∙ fold-roll-Value ℕ levels_step (Value-F.Int z)
@@ -53,10 +49,6 @@ long_level z = ap levels_in (sym (rolls-Long z)) ∙ fold-roll-Value ℕ levels_
 bool_level : (b : Truth) → levels_in (Bool b) ≡ 0
 unfolding levels_in
 bool_level b = ap levels_in (sym (rolls-Bool b)) ∙ fold-roll-Value ℕ levels_step (Value-F.Bool b)
-
-str_size : (t : List ℕ) → length (spelled (Str t)) ≡ length t + 5
-str_size t =
-    ap (λ (v : Value). length (spelled v)) (sym (rolls-Str t)) ∙ ap (λ (p : Typed). length p.1) (fold-roll-Value Typed spelling_step (Value-F.Str t)) ∙ omega (arith, length-append t (0 ∷ []))
 
 int_size : (z : ℤ) → length (spelled (Int z)) ≡ 4
 int_size z = ap (λ (v : Value). length (spelled v)) (sym (rolls-Int z)) ∙ ap (λ (p : Typed). length p.1) (fold-roll-Value Typed spelling_step (Value-F.Int z))
@@ -107,7 +99,7 @@ module _ (ns : NsName) (eof : Truth) (z : ℤ) where
   unfolding head_text
   head_size =
       let fs = head_fields ns eof z in
-      omega (arith, document_length fs, elements_size db_name (Str ns.db) ((collection_name, Str ns.coll) ∷ (eof_name, Bool eof) ∷ (crc_name, Long z) ∷ []), elements_size collection_name (Str ns.coll) ((eof_name, Bool eof) ∷ (crc_name, Long z) ∷ []), elements_size eof_name (Bool eof) ((crc_name, Long z) ∷ []), elements_size crc_name (Long z) [], str_size ns.db, str_size ns.coll, bool_size eof, long_size z)
+      omega (arith, document_length fs, elements_size db_name (Str ns.db) ((collection_name, Str ns.coll) ∷ (eof_name, Bool eof) ∷ (crc_name, Long z) ∷ []), elements_size collection_name (Str ns.coll) ((eof_name, Bool eof) ∷ (crc_name, Long z) ∷ []), elements_size eof_name (Bool eof) ((crc_name, Long z) ∷ []), elements_size crc_name (Long z) [], spelled-str ns.db, spelled-str ns.coll, bool_size eof, long_size z)
 
   module _ (db_text : is_utf8 ns.db ≡ true) (coll_text : is_utf8 ns.coll ≡ true) (fit : FitsSigned w64 z) where
     head_kept : IsWellFormedDocument (head_fields ns eof z)
@@ -121,7 +113,7 @@ module _ (ns : NsName) (eof : Truth) (z : ℤ) where
 
     head_fields_read : HeadFits ns → fields_of (head_text ns eof z) ≡ Ok (head_fields ns eof z)
     unfolding head_text
-    head_fields_read fits = is_read (head_fields ns eof z) head_kept (omega (arith, head_size, document_length (head_fields ns eof z), fits)) (omega (arith, str_level ns.db, str_level ns.coll, bool_level eof, long_level z))
+    head_fields_read fits = is_read (head_fields ns eof z) head_kept (omega (arith, head_size, document_length (head_fields ns eof z), fits)) (omega (arith, levels-str ns.db, levels-str ns.coll, bool_level eof, long_level z))
 
     head_shaped : is_namespace ns ≡ true → ns_head_of (head_fields ns eof z) ≡ Ok (record { ns = ns; eof = eof; crc = if eof then Some z else None })
     unfolding ns_head_of
@@ -141,7 +133,7 @@ module _ (m : Metadata) where
   unfolding meta_text
   meta_size =
       let rest : List (List ℕ × Value) = (size_name, Int (pos 0)) ∷ (type_name, Str (codes "collection")) ∷ [] in
-      omega (arith, document_length (meta_fields m), elements_size db_name (Str m.ns.db) ((collection_name, Str m.ns.coll) ∷ (metadata_name, Str m.text) ∷ rest), elements_size collection_name (Str m.ns.coll) ((metadata_name, Str m.text) ∷ rest), elements_size metadata_name (Str m.text) rest, elements_size size_name (Int (pos 0)) ((type_name, Str (codes "collection")) ∷ []), elements_size type_name (Str (codes "collection")) [], str_size m.ns.db, str_size m.ns.coll, str_size m.text, str_size (codes "collection"), int_size (pos 0))
+      omega (arith, document_length (meta_fields m), elements_size db_name (Str m.ns.db) ((collection_name, Str m.ns.coll) ∷ (metadata_name, Str m.text) ∷ rest), elements_size collection_name (Str m.ns.coll) ((metadata_name, Str m.text) ∷ rest), elements_size metadata_name (Str m.text) rest, elements_size size_name (Int (pos 0)) ((type_name, Str (codes "collection")) ∷ []), elements_size type_name (Str (codes "collection")) [], spelled-str m.ns.db, spelled-str m.ns.coll, spelled-str m.text, spelled-str (codes "collection"), int_size (pos 0))
 
   module _ (texts : AreTexts m.ns) (text : is_utf8 m.text ≡ true) where
     meta_kept : IsWellFormedDocument (meta_fields m)
@@ -155,7 +147,7 @@ module _ (m : Metadata) where
 
     meta_fields_read : MetaFits m → fields_of (meta_text m) ≡ Ok (meta_fields m)
     unfolding meta_text
-    meta_fields_read fits = is_read (meta_fields m) meta_kept (omega (arith, meta_size, document_length (meta_fields m), fits)) (omega (arith, str_level m.ns.db, str_level m.ns.coll, str_level m.text, int_level (pos 0), str_level (codes "collection")))
+    meta_fields_read fits = is_read (meta_fields m) meta_kept (omega (arith, meta_size, document_length (meta_fields m), fits)) (omega (arith, levels-str m.ns.db, levels-str m.ns.coll, levels-str m.text, int_level (pos 0), levels-str (codes "collection")))
 
     meta_shaped : is_namespace m.ns ≡ true → meta_of (meta_fields m) ≡ Ok m
     unfolding meta_of
@@ -172,7 +164,7 @@ module _ (h : Header) where
   unfolding header_text
   header_size =
       let rest : List (List ℕ × Value) = (server_name, Str h.server) ∷ (tool_name, Str h.tool) ∷ [] in
-      omega (arith, document_length (header_fields h), elements_size concurrent_name (Int h.concurrent) ((version_name, Str format_version) ∷ rest), elements_size version_name (Str format_version) rest, elements_size server_name (Str h.server) ((tool_name, Str h.tool) ∷ []), elements_size tool_name (Str h.tool) [], str_size format_version, str_size h.server, str_size h.tool, int_size h.concurrent)
+      omega (arith, document_length (header_fields h), elements_size concurrent_name (Int h.concurrent) ((version_name, Str format_version) ∷ rest), elements_size version_name (Str format_version) rest, elements_size server_name (Str h.server) ((tool_name, Str h.tool) ∷ []), elements_size tool_name (Str h.tool) [], spelled-str format_version, spelled-str h.server, spelled-str h.tool, int_size h.concurrent)
 
   module _ (server_text : is_utf8 h.server ≡ true) (tool_text : is_utf8 h.tool ≡ true) (fit : FitsSigned w32 h.concurrent) where
     header_kept : IsWellFormedDocument (header_fields h)
@@ -186,7 +178,7 @@ module _ (h : Header) where
 
     header_fields_read : HeaderFits h → fields_of (header_text h) ≡ Ok (header_fields h)
     unfolding header_text
-    header_fields_read fits = is_read (header_fields h) header_kept (omega (arith, header_size, document_length (header_fields h), fits)) (omega (arith, str_level format_version, str_level h.server, str_level h.tool, int_level h.concurrent))
+    header_fields_read fits = is_read (header_fields h) header_kept (omega (arith, header_size, document_length (header_fields h), fits)) (omega (arith, levels-str format_version, levels-str h.server, levels-str h.tool, int_level h.concurrent))
 
     header_shaped : header_of (header_fields h) ≡ Ok h
     unfolding header_of

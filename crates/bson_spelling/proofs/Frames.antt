@@ -19,12 +19,7 @@ use Rattle.bson_view.specs.Parts.{Part, bytes_of, fields_of, values_of, AreEleme
 use Rattle.bson_view.proofs.Meanings.{value_is}
 use Rattle.bson_view.proofs.Sizes.{frame_size}
 use Rattle.bson_spelling.specs.Spelled.{AreSpelledFields, AreSpelledItems}
-use Rattle.bson_encode.proofs.Numbered.{string_back}
-
-count_back : (c : List ℕ) (n : ℕ) → AreBytes c → IsCount c n → c ≡ count_bytes n
-count_back c n h k =
-    let small : n % (2 ^ 32) ≡ n = omega (arith, word_small c n h k) in
-    sym (le_bytes_4 c n k.four h (sym k.value)) ∙ ap (to_le_bytes w32) (sym small)
+use Rattle.bson_encode.proofs.Numbered.{string_back, count_back}
 
 module _ (b elements text : List ℕ) (h : AreBytes b) (f : IsFrame b elements) where
   whole : b ≡ f.0 ++ (elements ++ 0 ∷ [])

@@ -11,11 +11,6 @@ use Rattle.sorted_list.specs.Order.{AllAbove, Behind, IsOrdered, found, put_in, 
 use Rattle.coll_state.specs.Stock.{AllAfter, Rise, beside}
 use Rattle.sorted_list.proofs.Order.{none_above}
 
-is_less : (o : Ordering) → is_lt o ≡ true → o ≡ Less
-is_less Less e = refl
-is_less Equal e = cc
-is_less Greater e = cc
-
 pub is_equal : (o : Ordering) → is_eq o ≡ true → o ≡ Equal
 is_equal Less e = cc
 is_equal Equal e = refl

@@ -22,6 +22,7 @@ use Rattle.extjson.proofs.Formed.{ascii}
 use Rattle.extjson.proofs.Decimals.{decimal_number, one_number}
 use Rattle.formed_trees.specs.Laws.{TreesAreFormed}
 use Rattle.formed_trees.proofs.Texts.{of_ascii, differ, hex_text_formed, base64_formed}
+use Rattle.extjson.proofs.Wraps.{names_kept}
 
 well_wrapped : (name : List ℕ) (t : Tree) → is_utf8 name ≡ true → IsWell t → IsWell (wrapped name t)
 well_wrapped name t u k = well_object ((name, t) ∷ []) ((tt, tt), (u, tt)) (k, tt)
@@ -103,16 +104,12 @@ well_max = well_wrapped _ _ (ascii _ refl) (well_number _ one_number)
 
 -- ---- names
 
-names_same : (fs : List (List ℕ × Value)) → names_of (fields_of fs) ≡ names_of fs
-names_same [] = refl
-names_same (f ∷ fs) = λ i. f.0 ∷ names_same fs i
-
 names_utf8 : (fs : List (List ℕ × Value)) → AllByRecursion (λ e. IsName e.0) fs → AllByRecursion (λ e. is_utf8 e.0 ≡ true) (fields_of fs)
 names_utf8 [] h = tt
 names_utf8 (f ∷ fs) h = (h.0.utf8, names_utf8 fs h.1)
 
 names_well : (fs : List (List ℕ × Value)) → values.AreNames fs → AreNames (fields_of fs)
-names_well fs h = (subst AreDistinct (sym (names_same fs)) h.0, names_utf8 fs h.1)
+names_well fs h = (subst AreDistinct (sym (names_kept fs)) h.0, names_utf8 fs h.1)
 
 -- ---- the induction
 

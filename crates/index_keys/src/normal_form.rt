@@ -1,7 +1,7 @@
 //! The normal form of index definitions.
 ghost use Rattle.std.specs.Prelude.{◌≡◌, ◌++◌, ◌∷◌, [], codes, IfOk, OnOk};
 ghost use Rattle.std.specs.Option.{option_copied};
-ghost use Rattle.json_tree.specs.declared.tree.Tree.TheVariants.{Str as text_tree};
+ghost use Rattle.json_tree.specs.declared.tree.Tree.TheVariants.{Object as object_tree, Str as text_tree};
 ghost use Rattle.containers.specs.Entries.{AreDistinct, names_of};
 ghost use Rattle.extjson.specs.Trees.{wrapped};
 ghost use Rattle.extjson.specs.Plain.{wrapped_numbers, wrapped_fields};
@@ -56,14 +56,36 @@ fn arranged(
     ensures { IfOk result (λ fs. fs.items ≡ wrapped_fields (arranged key.now name.now fields.now)) }
 {
     let mut entries = Vec::new(alloc);
-    let version = version(alloc, fields.get("v"))?;
-    put(alloc, &mut entries, "v", &version)?;
-    let key = Tree::Object(key.copy(alloc)?);
-    put(alloc, &mut entries, "key", &key)?;
-    let name = Tree::Str(Text::of(alloc, name)?);
-    put(alloc, &mut entries, "name", &name)?;
+    put_version(alloc, &mut entries, fields.get("v"))?;
+    put_key(alloc, &mut entries, key)?;
+    put_name(alloc, &mut entries, name)?;
     put_others(alloc, &mut entries, fields.entries())?;
     Ok(entries)
+}
+
+fn put_version(
+    alloc: Global,
+    entries: &mut Vec<(Text, Tree)>,
+    given: Option<&Tree>,
+) -> Result<(), AllocError>
+    ensures { OnOk result (entries.new.items ≡ entries.old.items ++ (codes "v", wrapped_numbers (version (option_copied given.entry))) ∷ []) }
+{
+    let version = version(alloc, given)?;
+    put(alloc, entries, "v", &version)
+}
+
+fn put_key(alloc: Global, entries: &mut Vec<(Text, Tree)>, key: &Fields) -> Result<(), AllocError>
+    ensures { OnOk result (entries.new.items ≡ entries.old.items ++ (codes "key", wrapped_numbers (object_tree key.now)) ∷ []) }
+{
+    let key = Tree::Object(key.copy(alloc)?);
+    put(alloc, entries, "key", &key)
+}
+
+fn put_name(alloc: Global, entries: &mut Vec<(Text, Tree)>, name: &str) -> Result<(), AllocError>
+    ensures { OnOk result (entries.new.items ≡ entries.old.items ++ (codes "name", wrapped_numbers (text_tree name.now)) ∷ []) }
+{
+    let name = Tree::Str(Text::of(alloc, name)?);
+    put(alloc, entries, "name", &name)
 }
 
 // Puts in the fields that have no place of their own.

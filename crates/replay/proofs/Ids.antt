@@ -23,6 +23,7 @@ use Rattle.doc_path.specs.Touch.{key_of, or_else, walk_by, set_by, unset_by, tak
 use Rattle.doc_path.specs.Played.{id_name, is_id, any_far, left_at, is_left, played, played_all, way_and_last, touch_by, touch_at, touch_of}
 use Rattle.coll_state.specs.Rows.{id_of, key_in}
 use Rattle.delta_apply.proofs.Others.{fields, fields-object}
+use Rattle.entry_model.proofs.Touched.{parted}
 
 abbrev Field : Type 0
 Field = List ℕ × Value
@@ -113,16 +114,12 @@ other_part : (p : Part) → is_id p ≡ false → bytes_eq (key_of p) id_name �
 other_part (name k) e = e
 other_part (index n) e = digits_no_id n
 
-place_back : (p : Part) (ps : List Part) → (way_and_last p ps).0 ++ ((way_and_last p ps).1 ∷ []) ≡ p ∷ ps
-place_back p [] = refl
-place_back p (q ∷ qs) = ap (λ (rs : List Part). p ∷ rs) (place_back q qs)
-
 first_of : (a b : Bool) → a || b ≡ false → a ≡ false
 first_of true b e = e
 first_of false b e = refl
 
 no_id_at : (p : Part) (ps : List Part) → left_at ((way_and_last p ps).0 ++ ((way_and_last p ps).1 ∷ [])) ≡ false → is_id p ≡ false
-no_id_at p ps e = first_of (is_id p) (any_far (p ∷ ps)) (sym (ap left_at (place_back p ps)) ∙ e)
+no_id_at p ps e = first_of (is_id p) (any_far (p ∷ ps)) (sym (ap left_at (parted p ps)) ∙ e)
 
 no_id_first : (p : Part) (ps : List Part) (c : Change) → is_left (touch_by (way_and_last p ps) c) ≡ false → is_id p ≡ false
 no_id_first p ps (Put a) e = no_id_at p ps e

@@ -7,17 +7,7 @@ use Rattle.std.proofs.lemmas.Bool.{cases_lt}
 use Rattle.std.proofs.lemmas.List.{take-append-le, take_all, take_at}
 use Rattle.std.proofs.Math.Seq.{take-append-add}
 use Rattle.tool_io.specs.Causes.{AppendsFront}
-
--- a front of what follows a piece
-pub front_behind : (a b c : Option (List ℕ)) (xs ys : List ℕ) → Appends a b xs → AppendsFront b c ys → AppendsFront a c (xs ++ ys)
-front_behind a b c xs ys p q = (length xs + q.0, subst (Appends a c) (sym (take-append-add xs ys q.0)) (Appends-trans a b c xs (take q.0 ys) p q.1))
-
--- a front of the first piece is one of all
-pub front_within : (a b : Option (List ℕ)) (xs ys : List ℕ) → AppendsFront a b xs → AppendsFront a b (xs ++ ys)
-front_within a b xs ys p = elim (cases_lt (length xs) p.0) [
-  | inl long ↦ (length xs, subst (Appends a b) (take_all p.0 xs (omega (arith, long)) ∙ sym (take_at xs ys (length xs) refl)) p.1)
-  | inr fits ↦ (p.0, subst (Appends a b) (sym (take-append-le p.0 xs ys (omega (arith, fits)))) p.1)
-]
+use Rattle.tool_io.proofs.Writes.{front_next, front_first}
 
 -- what is still to write of a whole text, of which the rest was written
 pub record Left (before now : Option (List ℕ)) (text rest : List ℕ) : Type 0 where
@@ -29,13 +19,13 @@ left_all now text = record { whole = λ after w. w; front = λ after w. w }
 
 pub left_on : (before now next : Option (List ℕ)) (text piece rest : List ℕ) → Left before now text (piece ++ rest) → Appends now next piece → Left before next text rest
 left_on before now next text piece rest h w =
-    record { whole = λ after v. h.whole after (Appends-trans now next after piece rest w v); front = λ after v. h.front after (front_behind now next after piece rest w v) }
+    record { whole = λ after v. h.whole after (Appends-trans now next after piece rest w v); front = λ after v. h.front after (front_next now next after piece rest w v) }
 
 pub left_none : (before now : Option (List ℕ)) (text : List ℕ) → Left before now text [] → Appends before now text
 left_none before now text h = h.whole now (Appends-nil now)
 
 pub left_stop : (before now after : Option (List ℕ)) (text piece rest : List ℕ) → Left before now text (piece ++ rest) → AppendsFront now after piece → AppendsFront before after text
-left_stop before now after text piece rest h w = h.front after (front_within now after piece rest w)
+left_stop before now after text piece rest h w = h.front after (front_first now after piece rest w)
 
 pub on_ok : {A B P Q : Type 0} (r : Result A B) → (P → Q) → OnOk r P → OnOk r Q
 on_ok (Ok a) f p = f p

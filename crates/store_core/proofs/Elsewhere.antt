@@ -27,18 +27,15 @@ there g n s m e = by (map.get s n)
 pub as_before : (n : NsName) (r : Rows) → AreElsewhere n r r
 as_before n r m e = refl
 
-pub after_put : (n : NsName) (d : Document) (r : Rows) → AreElsewhere n r (put n d r)
-after_put n d r = put_elsewhere n d r
-
 -- a put that isn't made
 pub before_put : (n : NsName) (d : Document) (r : Rows) → AreElsewhere n (put n d r) r
-before_put n d r m e = sym (after_put n d r m e)
+before_put n d r m e = sym (put_elsewhere n d r m e)
 
 pub after_create : (n : NsName) (o : Tree) (r : Rows) → AreElsewhere n r (create n o r)
 after_create n o r m e = names_differ r.tables n m _ e
 
 pub after_both : (n : NsName) (o : Tree) (d : Document) (r : Rows) → AreElsewhere n r (put n d (create n o r))
-after_both n o d r m e = after_put n d (create n o r) m e ∙ after_create n o r m e
+after_both n o d r m e = put_elsewhere n d (create n o r) m e ∙ after_create n o r m e
 
 pub after_drop : (n : NsName) (r : Rows) → AreElsewhere n r (drop_ns n r)
 after_drop n r m e = names_differ_removed r.tables n m e

@@ -16,6 +16,7 @@ use Rattle.copy_model.specs.Writes.{Put, Remove, Create, DropColl, DropDb, AddIn
 use Rattle.history_model.specs.Stages.{rows_all}
 use Rattle.command_refusals.specs.Keyed.{AllKeyed, AreKeyed}
 use Rattle.store_core.specs.Stores.{AllShort, AreShort}
+use Rattle.coll_state.proofs.Sound.{some_table, no_table}
 
 -- a document that may stand under a key
 abbrev pub IsGood : Key → Fields → Type 0
@@ -55,12 +56,6 @@ pub good_short : (r : Rows) → AreGood r → AreShort r
 good_short r h n t e = short_rows t.rows (h n t e)
 
 -- ---- tables
-
-some_table : (a b : Table) → Some a ≡ Some b → a ≡ b
-some_table a b e = cc
-
-no_table : (t : Table) → None ≡ Some t → ⊥
-no_table t e = cc
 
 good_insert : (ts : Tables) (k : NsName) (u : Table) → AllTables ts → AllGood u.rows → AllTables (map.insert ts k u)
 good_insert ts k u h w n t e = by (same_ns n k) (sym (ns_at_insert ts k u n) ∙ e)

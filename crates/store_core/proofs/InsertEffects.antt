@@ -31,6 +31,7 @@ use Rattle.store_core.specs.Applying.{Makes, stage_in, stored_set, next_entry}
 use Rattle.store_core.specs.Documents.{insert_effects, IsKept}
 use Rattle.store_core.proofs.Bytes.{entry_text}
 use Rattle.store_core.proofs.Made.{holds_one, holds_two, made_one, made_two}
+use Rattle.coll_state.proofs.Sound.{some_table}
 
 pub empty_options : options_of [] ≡ no_options
 unfolding options_of
@@ -99,9 +100,6 @@ first_made c n d old new creation bytes later same k e t a b f = by (id_of d) re
         (f ∙ (λ i. stored (put_under n (ap key_in g i) d (create n (sym empty_options i) old.rows)) (logged bytes (logged creation old.log))))
 
 -- ---- a collection that is made
-
-some_table : (a b : Table) → Some a ≡ Some b → a ≡ b
-some_table a b e = cc
 
 no_definition : (d : Tree) → None ≡ Some d → ⊥
 no_definition d e = cc

@@ -15,6 +15,7 @@ use Rattle.coll_state.specs.Changes.{Tables, put_row, drop_row, put_table, drop_
 use Rattle.coll_state.specs.Rows.{Document, Row, Rows, Table, id_of, key_in}
 use Rattle.command_refusals.specs.Keyed.{AllKeyed, AreKeyed}
 use Rattle.transactions.specs.Transactions.{ChangesKeepKeys}
+use Rattle.coll_state.proofs.Sound.{some_table}
 
 put_keys : (next : ℕ) (k : Key) (d : Document) (rs : List Row) → key_in (id_of d) ≡ k → AllKeyed rs → AllKeyed (put_row next k d rs)
 put_keys next k d [] e h = (sym e, tt)
@@ -34,9 +35,6 @@ drop_keys k (r ∷ rs) h = by (same_key k r.key) (drop_keys k rs h.1)
 
 abbrev AllTables : Tables → Type 0
 AllTables ts = (n : NsName) (t : Table) → map.get ts n ≡ Some t → AllKeyed t.rows
-
-some_table : (a b : Table) → Some a ≡ Some b → a ≡ b
-some_table a b e = cc
 
 set_keys : (ts : Tables) (n : NsName) (u : Table) → AllTables ts → AllKeyed u.rows → AllTables (map.insert ts n u)
 set_keys ts n u h w m t e = by (same_ns m n) (sym (ns_at_insert ts n u m) ∙ e)

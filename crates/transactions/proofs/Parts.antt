@@ -21,6 +21,7 @@ use Rattle.transactions.specs.Shown.{ShowAll}
 use Rattle.transactions.specs.Scratch.{GrowsIn, Grows, CoversIn, Covers, HaveNoIndexes, Others, with_collection, MayAdd, IsPart, HasCollection, IsShown}
 use Rattle.transactions.proofs.Keys.{put_keyed_rows, describe_keys, no_keys}
 use Rattle.transactions.proofs.Showing.{the_table, put_document_at}
+use Rattle.kept_indexes.proofs.Tests.{same_truth}
 
 -- ---- a part shows what it covers
 
@@ -29,14 +30,9 @@ same_option None None f g = refl
 same_option None (Some a) f g = g a refl
 same_option (Some a) p f g = sym (f a refl)
 
-same_bool : (a b : Bool) → (a ≡ true → b ≡ true) → (b ≡ true → a ≡ true) → a ≡ b
-same_bool true b f g = sym (f refl)
-same_bool false true f g = g refl
-same_bool false false f g = refl
-
 shows_in : (v : Option Value) (o p : Option Table) → GrowsIn o p → CoversIn v o p → ShowsIn v o p
 shows_in v o p h c = record {
-  there = same_bool (is_some o) (is_some p) h.there c.there;
+  there = same_truth (is_some o) (is_some p) h.there c.there;
   document = λ id e. same_option (document_in (key_of id) o) (document_in (key_of id) p) (λ d f. h.document (key_of id) d f) (λ d f. c.document id d e f);
 }
 
@@ -340,7 +336,3 @@ named_shown c n id old mid new r e h k i a =
     named_in c id old mid new r (subst (λ (m : NsName). HasCollection m old mid r) e h) k i (subst (λ (m : NsName). MayAdd m (document_at m (key_of id) r.tables) mid new) e a)
 
 -- ---- answers of calls
-
-pub on_ok : {A E : Type 0} (r : Result A E) {P Q : Type 0} → OnOk r P → (P → Q) → OnOk r Q
-on_ok (Ok a) h f = f h
-on_ok (Err e) h f = h

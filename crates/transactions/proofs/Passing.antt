@@ -13,6 +13,7 @@ use Rattle.coll_state.specs.Rows.{Document, Row, Rows, Table}
 use Rattle.transactions.specs.Transactions.{AreGood, AllPass, DocumentsPass, ChangesPass, ChangesKeepTest, GoodChanges}
 use Rattle.transactions.proofs.Progress.{good_there, good_ids}
 use Rattle.coll_state.specs.Kept.{is_short}
+use Rattle.coll_state.proofs.Sound.{some_table}
 
 abbrev Test : Type 0
 Test = Document → Bool
@@ -35,9 +36,6 @@ drop_passes p k (r ∷ rs) h = by (same_key k r.key) (drop_passes p k rs h.1)
 
 abbrev TablesPass : Test → Tables → Type 0
 TablesPass p ts = (n : NsName) (t : Table) → map.get ts n ≡ Some t → AllPass p t.rows
-
-some_table : (a b : Table) → Some a ≡ Some b → a ≡ b
-some_table a b e = cc
 
 set_passes : (p : Test) (ts : Tables) (n : NsName) (u : Table) → TablesPass p ts → AllPass p u.rows → TablesPass p (map.insert ts n u)
 set_passes p ts n u h w m t e = by (same_ns m n) (sym (ns_at_insert ts n u m) ∙ e)

@@ -180,7 +180,3 @@ good_ids [] ts g = tt
 good_ids (c ∷ cs) ts g = (g.0.id, good_ids cs ts g.1)
 
 -- ---- answers of calls
-
-pub if_ok : {A E : Type 0} (r : Result A E) {P Q : A → Type 0} → IfOk r P → ((a : A) → P a → Q a) → IfOk r Q
-if_ok (Ok a) h f = f a h
-if_ok (Err e) h f = h

@@ -19,8 +19,8 @@ use Rattle.entry_model.specs.Spelling.{level_limit}
 use Rattle.bson_check.specs.Reading.{document_of}
 use Rattle.update_action.specs.Recorded.{delta_text, touches_in, read_or_none, byte_limit, delta_of, delta_or_whole, action_of}
 use Rattle.update_action.specs.Single.{IsWellFormedPart, AreWellFormedParts, starts_at_name, ends_at_index, IsPlain, IsShallow, AreReadAgain}
-use Rattle.update_action.proofs.Alike.{parted}
 use Rattle.update_action.proofs.One.{IsStep, delta_read, edit_read}
+use Rattle.entry_model.proofs.Touched.{parted}
 
 -- ---- a place as a way and its last part
 

@@ -19,16 +19,12 @@ use Rattle.entry_model.specs.Spelling.{level_limit}
 use Rattle.update_action.specs.Recorded.{set_or_length, without_length, delta_text}
 use Rattle.update_replay.specs.Forms as forms
 use Rattle.update_replay.proofs.Named.{key_as_name}
+use Rattle.entry_model.proofs.Touched.{parted}
 
 path_as_names : (ps : List Part) → path_of (as_names ps) ≡ path_of ps
 path_as_names [] = refl
 path_as_names (p ∷ []) = key_as_name p
 path_as_names (p ∷ (q ∷ ps)) = λ i. key_as_name p i ++ (dot ∷ path_as_names (q ∷ ps) i)
-
--- the place of a way and its last part
-pub parted : (p : Part) (ps : List Part) → (way_and_last p ps).0 ++ ((way_and_last p ps).1 ∷ []) ≡ p ∷ ps
-parted p [] = refl
-parted p (q ∷ qs) = ap (λ (z : List Part). p ∷ z) (parted q qs)
 
 -- ---- what an edit sets, and what it removes
 

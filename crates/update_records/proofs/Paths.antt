@@ -25,9 +25,9 @@ use Rattle.update_model.specs.Conflicts.{Path}
 use Rattle.update_model.specs.Arguments.{number_in, end_in, text_in, items_in, each_of, values_in, is_expression, operator_of}
 use Rattle.update_model.specs.Reading.{name_of, Met, Taken, Refused, starts_with_id, met_by, met, is_some, target, targets, met_at, met_paths, met_field, all_met, ops_fault, listed, operators_at, operators_in, operators}
 use Rattle.update_records.proofs.Levels.{Fields}
-use Rattle.update_records.proofs.Once.{either_false}
 use Rattle.update_records.proofs.Acts.{IsNamedPath, IsWellFormedNumber, IsWellFormedOperator, AreWellFormedOperators}
-use Rattle.update_model.proofs.ReadOff.{none_refused}
+use Rattle.update_model.proofs.ReadOff.{none_refused, both_none as refused_apart}
+use Rattle.update_records.proofs.Once.{either_false}
 
 -- ---- the texts between dots
 
@@ -110,11 +110,6 @@ abbrev NoneRefused : List Met → Type 0
 NoneRefused [] = Unit {0}
 NoneRefused (Taken p ∷ ms) = NoneRefused ms
 NoneRefused (Refused e ∷ ms) = ⊥
-
-refused_apart : (ms ns : List Met) → NoneRefused (ms ++ ns) → NoneRefused ms × NoneRefused ns
-refused_apart [] ns h = (tt, h)
-refused_apart (Taken p ∷ ms) ns h = refused_apart ms ns h
-refused_apart (Refused e ∷ ms) ns h = absurd h
 
 met_named : (text : List ℕ) (fits : Bool) (ms : List Met) → is_utf8 text ≡ true → NoneRefused (met text fits ∷ ms) → IsNamedPath (parts_of text) × NoneRefused ms
 met_named text fits ms u h = by (path_fault text) refl h

@@ -1,8 +1,9 @@
 use Rattle.std.proofs.Common.{◌≡◌, true, false, arith, sym, ◌∙◌}
 use Rattle.std.proofs.lemmas.Grind.{common_steps}
 use Rattle.history_model.specs.Refusals.{is_there}
-use Rattle.transactions.proofs.Parts.{on_ok, has_collection, missing_shown, unnamed_shown, named_shown}
+use Rattle.transactions.proofs.Parts.{has_collection, missing_shown, unnamed_shown, named_shown}
 use Rattle.transactions.proofs.scratch.show.Goals as goal
+use Rattle.transaction_indexes.proofs.Indexes.{on_ok}
 
 pub returns-then-not-has : goal.returns-then-not-has
 returns-then-not-has c =

@@ -5,9 +5,9 @@ use Rattle.schedule_model.specs.declared.command.DocumentCommand.{DocumentComman
 use Rattle.schedule_model.specs.declared.command.DocumentCommand.TheVariants.{Insert, Replace, Delete}
 use Rattle.history_model.specs.Refusals.{is_there, namespace_of}
 use Rattle.transactions.specs.Steps.{IsStep}
-use Rattle.transactions.proofs.Progress.{if_ok}
 use Rattle.transactions.proofs.Steps.{step_in}
 use Rattle.transactions.proofs.step.step.Goals as goal
+use Rattle.kept_indexes.proofs.Told.{if_ok}
 
 pub returns-in-Insert : goal.returns-in-Insert
 returns-in-Insert c =

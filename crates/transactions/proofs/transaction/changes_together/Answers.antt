@@ -1,7 +1,8 @@
 use Rattle.std.proofs.Common.{sym, ◌∙◌}
-use Rattle.transactions.proofs.Progress.{if_ok, good_there, good_ids}
+use Rattle.transactions.proofs.Progress.{good_there, good_ids}
 use Rattle.transactions.proofs.Running.{runs_answer, runs_good, runs_count, runs_kept, failed_kept}
 use Rattle.transactions.proofs.transaction.changes_together.Goals as goal
+use Rattle.kept_indexes.proofs.Told.{if_ok}
 
 pub returns-then-is_err-clause-kept : goal.returns-then-is_err-clause-kept
 returns-then-is_err-clause-kept c =

@@ -1,6 +1,6 @@
-use Rattle.transactions.proofs.Progress.{if_ok}
 use Rattle.transactions.proofs.Running.{taken_still}
 use Rattle.transactions.proofs.transaction.trial.Goals as goal
+use Rattle.kept_indexes.proofs.Told.{if_ok}
 
 pub returns-clause-taken : goal.returns-clause-taken
 returns-clause-taken c =
