@@ -57,10 +57,11 @@ impl Restore {
         ensures fault { self.new.fault ≡ self.old.fault }
         ensures starved { self.new.starved ≡ self.old.starved }
     {
-        if self.is_ripe(&entry) {
-            replay_document(self.alloc, &mut self.state, &entry)
-        } else {
-            self.entries.push(entry)
+        if !self.is_ripe(&entry) {
+            return self.entries.push(entry);
         }
+        let played = replay_document(self.alloc, &mut self.state, &entry);
+        drop(entry);
+        played
     }
 }

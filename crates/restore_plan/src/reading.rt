@@ -80,6 +80,7 @@ fn take_all<S: Source>(alloc: Global, plan: Plan, source: &mut S) -> Result<Rest
         return Ok(restore);
     };
     if let Some(fault) = outer_fault(fault) {
+        drop(restore);
         return Err(fault);
     }
     match restore.into_fault() {

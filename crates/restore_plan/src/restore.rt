@@ -18,6 +18,7 @@ use restore_entries::EntryReading;
 use restore_filter::Filter;
 use std::alloc::{AllocError, Global};
 use std::collections::BTreeSet;
+use std::mem;
 
 /// Makes a state of what an archive holds, a taking at a time. An entry of the oplog that changes one document is replayed as it comes
 /// where the plan changes no names, no entry waits before it, and its namespace was ended and has a collection; any other waits for the
@@ -77,6 +78,16 @@ impl Restore {
         }
     }
 
+    // Stops for this reason.
+    fn stop(&mut self, fault: RestoreFault) -> Halt
+        ensures halt { result ≡ Halt.Stopped }
+        ensures after { self.new ≡ record self.old { fault = Some fault } }
+    {
+        let before = mem::replace(&mut self.fault, Some(fault));
+        drop(before);
+        Halt::Stopped
+    }
+
     // Stops at a text of this namespace that is no metadata.
     fn stop_at_metadata(&mut self, ns: &NsName, at: usize) -> Halt
         ensures stopped { result ≡ Halt.Stopped → self.new ≡ record self.old { fault = Some (RestoreFault.Metadata ns.now at) } }
@@ -84,10 +95,7 @@ impl Restore {
     {
         match ns.copy(self.alloc) {
             Err(_) => self.starve(),
-            Ok(ns) => {
-                self.fault = Some(RestoreFault::Metadata { ns, at });
-                Halt::Stopped
-            }
+            Ok(ns) => self.stop(RestoreFault::Metadata { ns, at }),
         }
     }
 
@@ -98,10 +106,7 @@ impl Restore {
     {
         match ns.copy(self.alloc) {
             Err(_) => self.starve(),
-            Ok(ns) => {
-                self.fault = Some(RestoreFault::NoId { ns });
-                Halt::Stopped
-            }
+            Ok(ns) => self.stop(RestoreFault::NoId { ns }),
         }
     }
 
@@ -110,8 +115,7 @@ impl Restore {
         ensures halt { result ≡ Halt.Stopped }
         ensures after { self.new ≡ record self.old { fault = Some (RestoreFault.Entry ts) } }
     {
-        self.fault = Some(RestoreFault::Entry { ts });
-        Halt::Stopped
+        self.stop(RestoreFault::Entry { ts })
     }
 }
 
