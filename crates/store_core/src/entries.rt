@@ -10,12 +10,33 @@ use entry_model::{Action, Entry};
 use entry_writer::write;
 use std::alloc::{AllocError, Global};
 
-// The bytes of an entry.
-fn spelled(alloc: Global, ts: Ts, ns: NsName, action: Action) -> Result<Bytes, AllocError>
+/// The bytes of an entry.
+pub(crate) fn spelled(
+    alloc: Global,
+    ts: Ts,
+    ns: NsName,
+    action: Action,
+) -> Result<Bytes, AllocError>
     ensures { IfOk result (λ bytes. bytes ≡ document_text (entry_fields (entry_with ts ns action))) }
 {
     let entry = Entry { ts, ns, action };
-    write(alloc, &entry)
+    let bytes = write(alloc, &entry);
+    drop(entry);
+    bytes
+}
+
+// The bytes of an entry, and its action again.
+fn spelled_with(alloc: Global, entry: Entry) -> Result<(Bytes, Action), AllocError>
+    ensures bytes { IfOk result (λ r. r.0 ≡ document_text (entry_fields entry)) }
+    ensures action { IfOk result (λ r. r.1 ≡ entry.action) }
+{
+    match write(alloc, &entry) {
+        Ok(bytes) => Ok((bytes, entry.action)),
+        Err(e) => {
+            drop(entry);
+            Err(e)
+        }
+    }
 }
 
 // The document of an action that puts it.
@@ -52,9 +73,8 @@ pub(crate) fn spelled_put(
 {
     let ns = ns.copy(alloc)?;
     let action = Action::Put { doc };
-    let entry = Entry { ts, ns, action };
-    let bytes = write(alloc, &entry)?;
-    Ok((bytes, document_put(entry.action)))
+    let (bytes, action) = spelled_with(alloc, Entry { ts, ns, action })?;
+    Ok((bytes, document_put(action)))
 }
 
 /// The bytes of an entry that puts a document whole in the place of the one with its `_id`, and the document again.
@@ -70,9 +90,8 @@ pub(crate) fn spelled_whole(
 {
     let ns = ns.copy(alloc)?;
     let action = Action::Whole { id, doc };
-    let entry = Entry { ts, ns, action };
-    let bytes = write(alloc, &entry)?;
-    Ok((bytes, document_placed(entry.action)))
+    let (bytes, action) = spelled_with(alloc, Entry { ts, ns, action })?;
+    Ok((bytes, document_placed(action)))
 }
 
 /// The bytes of an entry of a collection.
@@ -86,7 +105,10 @@ pub(crate) fn spelled_of(
 {
     match ns.copy(alloc) {
         Ok(ns) => spelled(alloc, ts, ns, action),
-        Err(e) => Err(e),
+        Err(e) => {
+            drop(action);
+            Err(e)
+        }
     }
 }
 
@@ -104,6 +126,9 @@ pub(crate) fn spelled_of_database(
             let coll = Text::new(alloc);
             spelled(alloc, ts, NsName { db, coll }, action)
         }
-        Err(e) => Err(e),
+        Err(e) => {
+            drop(action);
+            Err(e)
+        }
     }
 }

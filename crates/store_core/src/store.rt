@@ -6,11 +6,11 @@ ghost use Rattle.history_model.specs.Runs.{first_entry, first_stage};
 ghost use Rattle.store_log.specs.Logged.{next_ts};
 ghost use Rattle.store_core.specs.Stores.{StandsAt, AreShort};
 
+use crate::entries::spelled;
 use bson_value::{Bytes, NsName, Text, Ts};
 use capped_oplog::CappedOplog;
 use coll_state::State;
-use entry_model::{Action, Entry};
-use entry_writer::write;
+use entry_model::Action;
 use kept_indexes::KeptIndexes;
 use std::alloc::{AllocError, Global};
 use std::marker::Model;
@@ -44,15 +44,12 @@ impl Model for Store {
 fn first_entry(alloc: Global) -> Result<Bytes, AllocError>
     ensures { IfOk result (λ bytes. bytes ≡ entry_bytes first_entry) }
 {
-    let entry = Entry {
-        ts: Ts { secs: 1, inc: 1 },
-        ns: NsName {
-            db: Text::new(alloc),
-            coll: Text::new(alloc),
-        },
-        action: Action::Nothing,
+    let first = Ts { secs: 1, inc: 1 };
+    let ns = NsName {
+        db: Text::new(alloc),
+        coll: Text::new(alloc),
     };
-    write(alloc, &entry)
+    spelled(alloc, first, ns, Action::Nothing)
 }
 
 impl Store {

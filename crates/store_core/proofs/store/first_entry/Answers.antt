@@ -9,6 +9,6 @@ use Rattle.store_core.proofs.store.first_entry.Goals as goal
 
 pub returns : goal.returns
 returns c =
-    subst (λ (t : List ℕ). IfOk c.write.result (λ bytes. bytes ≡ t))
+    subst (λ (t : List ℕ). IfOk c.spelled.result (λ bytes. bytes ≡ t))
     ((λ i. document_text (entry_fields (entry_with first_ts (record { db = c.new.ensures i; coll = c.new-2.ensures i }) actions.Nothing))) ∙ entry_text first_ts Nothing)
-    c.write.ensures
+    c.spelled.ensures
