@@ -1,5 +1,6 @@
 -- What rows ask of.
-use Rattle.std.specs.Prelude.{◌≡◌, ◌++◌, ◌<◌, ◌^◌, ℕ, List, length, Option, None, Some, Ok, codes, slice_get}
+use Rattle.std.specs.Prelude.{◌≡◌, ◌++◌, ◌<◌, ◌^◌, ◌==◌, ℕ, Bool, List, length, Option, None, Some, Ok, codes, slice_get}
+use Rattle.std.specs.List.{before_first, after_first}
 use Rattle.std.specs.Ordering.{nat_cmp}
 use Rattle.std.specs.Cmp.Lexicographic.{slice_cmp}
 use Rattle.std.specs.declared.cmp.Ordering.{Ordering}
@@ -12,7 +13,10 @@ use Rattle.bson_check.specs.declared.fault.BsonFault.{BsonFault}
 use Rattle.bson_check.specs.declared.fault.BsonKind.{BsonKind}
 use Rattle.bson_check.specs.declared.fault.BsonKind.TheVariants as kinds
 use Rattle.bson_value.specs.Spelling.{document_text, spelled}
+use Rattle.bson_value.specs.Timestamp.{stamp_cmp, stamp_number}
+use Rattle.bson_value.specs.declared.value.Ts.{Ts}
 use Rattle.bson_encode.specs.Key.{key_of}
+use Rattle.bson_view.specs.Parts.{Part}
 use Rattle.bson_value.specs.declared.value.Value.{Value}
 
 abbrev pub Document : Type 0
@@ -44,6 +48,21 @@ order_word Less = codes "Less"
 order_word Equal = codes "Equal"
 order_word Greater = codes "Greater"
 
+-- a timestamp is written as seconds and an ordinal, with a colon between
+abbrev pub is_colon : ℕ → Bool
+is_colon b = b == 58
+
+abbrev pub stamp_of : List ℕ → Ts
+stamp_of word = record { secs = number_of (before_first is_colon word); inc = number_of (after_first is_colon word) }
+
+-- how a timestamp stands to another one, and how their numbers do
+abbrev pub stamps_text : Ts → Ts → List ℕ
+stamps_text a b = order_word (stamp_cmp a b) ++ codes " " ++ order_word (nat_cmp (stamp_number a) (stamp_number b))
+
+-- how a text stands to another one, as texts, as texts without zeros and as bytes
+abbrev pub texts_text : List ℕ → List ℕ → List ℕ
+texts_text a b = let word = order_word (slice_cmp nat_cmp a b) in word ++ codes " " ++ word ++ codes " " ++ word
+
 -- how the key of a value stands to that of another one, where neither is too long for one document
 unfoldable pub AreComparedSo : Value → Value → List ℕ → Type 0
 AreComparedSo a b word =
@@ -63,6 +82,11 @@ kind_word kinds.TooLong = codes "TooLong"
 -- a fault and its place
 abbrev pub fault_word : BsonFault → List ℕ
 fault_word f = kind_word f.kind ++ codes " " ++ decimal f.at
+
+-- the name of an element, its type and the digits of its bytes
+abbrev pub part_answer : Option Part → List ℕ
+part_answer None = codes "none"
+part_answer (Some p) = p.name ++ codes " " ++ decimal p.tag ++ codes " (" ++ encode_lower p.value ++ codes ")"
 
 -- the first fault, or that there is none
 abbrev pub check_text : Option BsonFault → List ℕ

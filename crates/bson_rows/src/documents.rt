@@ -68,7 +68,8 @@ pub fn fault(alloc: Global, text: &str) -> Result<String>
 {
     let (depth, bytes) = words(text)?;
     let depth = number(depth)?;
-    fault_within(alloc, &row_script::bytes(alloc, bytes)?, 1000, depth)
+    let bytes = row_script::bytes(alloc, bytes)?;
+    fault_within(alloc, &bytes, 1000, depth)
 }
 
 /// Whether a document fits limits.
@@ -101,7 +102,8 @@ pub fn copied(alloc: Global, doc: &Doc) -> Result<String> {
 pub fn decoded(alloc: Global, text: &str) -> Result<String>
     ensures { IfOk result (λ answer. (doc : Document) × Write text.now doc × (string_bytes answer ≡ digits_of doc)) }
 {
-    spelled(alloc, &written(alloc, text)?)
+    let doc = written(alloc, text)?;
+    spelled(alloc, &doc)
 }
 
 /// A document with the fields of each level in the order of names.
@@ -110,7 +112,8 @@ pub fn ordered(alloc: Global, text: &str) -> Result<String>
 {
     let doc = written(alloc, text)?;
     doc.is_well_formed();
-    spelled(alloc, &doc.into_ordered())
+    let ordered = doc.into_ordered();
+    spelled(alloc, &ordered)
 }
 
 /// Bytes, and behind them a document.

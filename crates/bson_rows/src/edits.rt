@@ -8,7 +8,7 @@ ghost use Rattle.bson_encode.specs.Key.{key_of};
 ghost use Rattle.row_script.specs.Rows.{before_blank, behind_blank};
 ghost use Rattle.bson_rows.specs.Rows.{Document, IsFirst, Write, digits_of};
 
-use crate::texts::{spelled, written};
+use crate::texts::{joined, spelled, written};
 use anyhow::Result;
 use bson_encode::put_key;
 use bson_value::{CText, Doc, Fields, Value};
@@ -32,10 +32,12 @@ fn add_first(doc: &mut Doc, field: (CText, Value)) -> Result<()>
     ensures { OnOk result (doc.new ≡ field ∷ doc.old) }
 {
     let (name, value) = field;
-    match doc.place(name.as_str()) {
-        Some(_) => refused("the name is there"),
-        None => Ok(doc.add_first(name, value)?),
+    if doc.place(name.as_str()).is_some() {
+        drop(name);
+        drop(value);
+        return refused("the name is there");
     }
+    Ok(doc.add_first(name, value)?)
 }
 
 /// A document with a field more in front.
@@ -82,7 +84,7 @@ fn field_text(alloc: Global, name: &CText, value: &Value, rest: &Doc) -> Result<
 {
     let key = key_of(alloc, value)?;
     let rest = spelled(alloc, rest)?;
-    Ok(format!(in alloc; "{} {key} {rest}", name.as_str())?)
+    joined(alloc, name.as_str(), key.as_str(), rest.as_str())
 }
 
 /// The name and the key of the first field, which is taken out, and the rest.
@@ -104,7 +106,8 @@ fn entries_text(alloc: Global, entries: Vec<(CText, Value)>) -> Result<String>
     ensures { IfOk result (λ answer. string_bytes answer ≡ decimal (length entries.items) ++ codes " " ++ digits_of entries.items) }
 {
     let count = entries.len();
-    let doc = spelled(alloc, &Fields::of_distinct(entries))?;
+    let doc = Fields::of_distinct(entries);
+    let doc = spelled(alloc, &doc)?;
     Ok(format!(in alloc; "{count} {doc}")?)
 }
 
@@ -113,5 +116,6 @@ pub fn entries(alloc: Global, text: &str) -> Result<String>
     ensures { IfOk result (λ answer. (doc : Document) × Write text.now doc
         × (string_bytes answer ≡ decimal (length doc) ++ codes " " ++ digits_of doc)) }
 {
-    entries_text(alloc, written(alloc, text)?.into_entries())
+    let doc = written(alloc, text)?;
+    entries_text(alloc, doc.into_entries())
 }

@@ -16,14 +16,21 @@ use bson_value::Value;
 use row_script::{answer, digits, refused, words};
 use std::alloc::Global;
 
+// The byte ff, and behind it the key of this value.
+fn key_behind_ff(alloc: Global, value: &Value) -> Result<String>
+    ensures { IfOk result (λ answer. string_bytes answer ≡ encode_lower (255 ∷ key_of value.now)) }
+{
+    let mut out = vec![in alloc; 255u8]?;
+    put_key(&mut out, value)?;
+    digits(alloc, out.as_slice())
+}
+
 /// The byte ff, and behind it the key of a value.
 pub fn key(alloc: Global, text: &str) -> Result<String>
     ensures { IfOk result (λ answer. (field : List ℕ × Datum) × IsFirst text.now field × (string_bytes answer ≡ encode_lower (255 ∷ key_of field.1))) }
 {
     let field = first_field(alloc, text)?;
-    let mut out = vec![in alloc; 255u8]?;
-    put_key(&mut out, &field.1)?;
-    digits(alloc, out.as_slice())
+    key_behind_ff(alloc, &field.1)
 }
 
 fn key_order(alloc: Global, value: &Value, key: &[u8]) -> Result<String>
@@ -35,6 +42,15 @@ fn key_order(alloc: Global, value: &Value, key: &[u8]) -> Result<String>
     }
 }
 
+// How the key of a value stands to the bytes that the digits write.
+fn order_to_written(alloc: Global, value: &Value, digits: &str) -> Result<String>
+    ensures { IfOk result (λ answer. (key : List ℕ) × (decode_of digits.now ≡ Ok key)
+        × (string_bytes answer ≡ order_word (slice_cmp nat_cmp (key_of value.now) key))) }
+{
+    let key = row_script::bytes(alloc, digits)?;
+    key_order(alloc, value, &key)
+}
+
 /// How the key of a value stands to bytes.
 pub fn compared_key(alloc: Global, text: &str) -> Result<String>
     ensures { IfOk result (λ answer. (field : List ℕ × Datum) × (key : List ℕ) × IsFirst (before_blank text.now) field
@@ -42,8 +58,7 @@ pub fn compared_key(alloc: Global, text: &str) -> Result<String>
 {
     let (field, key) = words(text)?;
     let field = first_field(alloc, field)?;
-    let key = row_script::bytes(alloc, key)?;
-    key_order(alloc, &field.1, &key)
+    order_to_written(alloc, &field.1, key)
 }
 
 #[tactic(auto, unfolding(crate::specs::Rows::AreComparedSo))]
@@ -53,6 +68,15 @@ fn keys_order(alloc: Global, first: &Value, second: &Value) -> Result<String>
     answer(alloc, order_word(cmp_keys(first, second)))
 }
 
+// How the key of a value stands to that of the first field of the document that the digits write.
+fn order_to_field(alloc: Global, first: &Value, text: &str) -> Result<String>
+    ensures { IfOk result (λ answer. (second : List ℕ × Datum) × IsFirst text.now second
+        × AreComparedSo first.now second.1 (string_bytes answer)) }
+{
+    let second = first_field(alloc, text)?;
+    keys_order(alloc, first, &second.1)
+}
+
 /// How the key of a value stands to that of another one.
 pub fn compared_keys(alloc: Global, text: &str) -> Result<String>
     ensures { IfOk result (λ answer. (first : List ℕ × Datum) × (second : List ℕ × Datum) × IsFirst (before_blank text.now) first × IsFirst (behind_blank text.now) second
@@ -60,6 +84,5 @@ pub fn compared_keys(alloc: Global, text: &str) -> Result<String>
 {
     let (first, second) = words(text)?;
     let first = first_field(alloc, first)?;
-    let second = first_field(alloc, second)?;
-    keys_order(alloc, &first.1, &second.1)
+    order_to_field(alloc, &first.1, second)
 }

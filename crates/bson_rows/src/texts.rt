@@ -1,5 +1,5 @@
 //! Documents of a row.
-ghost use Rattle.std.specs.Prelude.{◌≡◌, IfOk, string_bytes};
+ghost use Rattle.std.specs.Prelude.{◌≡◌, ◌++◌, IfOk, codes, string_bytes};
 ghost use Rattle.row_script.specs.Rows.{before_blank, behind_blank};
 ghost use Rattle.bson_rows.specs.Rows.{number_of, Spell, Write, digits_of, fault_word, kind_word, order_word};
 
@@ -18,6 +18,13 @@ pub fn numbers(text: &str) -> Result<(usize, usize)>
 {
     let (first, second) = words(text)?;
     Ok((number(first)?, number(second)?))
+}
+
+/// Three words, with blanks between.
+pub fn joined(alloc: Global, first: &str, second: &str, third: &str) -> Result<String>
+    ensures { IfOk result (λ text. string_bytes text ≡ first.now ++ codes " " ++ second.now ++ codes " " ++ third.now) }
+{
+    Ok(format!(in alloc; "{first} {second} {third}")?)
 }
 
 /// A text without zeros.
@@ -45,14 +52,16 @@ pub fn document(alloc: Global, spelling: &[u8]) -> Result<Doc>
 pub fn written(alloc: Global, text: &str) -> Result<Doc>
     ensures { IfOk result (λ doc. Write text.now doc) }
 {
-    document(alloc, &bytes(alloc, text)?)
+    let spelling = bytes(alloc, text)?;
+    document(alloc, &spelling)
 }
 
 /// The digits of a document.
 pub fn spelled(alloc: Global, doc: &Doc) -> Result<String>
     ensures { IfOk result (λ digits. string_bytes digits ≡ digits_of doc.now) }
 {
-    digits(alloc, encode(alloc, doc)?.as_slice())
+    let spelling = encode(alloc, doc)?;
+    digits(alloc, spelling.as_slice())
 }
 
 /// How one stands to another, in a word.

@@ -3,4 +3,4 @@ use Rattle.std.proofs.lemmas.Result.{IfOk-weaker}
 use Rattle.bson_rows.proofs.keys.compared_keys.Goals as goal
 
 pub returns : goal.returns
-returns c = IfOk-weaker c.keys_order.result _ _ (λ answer e. (c.in_ok-first-2.first, c.in_ok-second.second, (search rules), (search rules), e)) c.keys_order.ensures
+returns c = IfOk-weaker c.order_to_field.result _ _ (λ answer e. (c.in_ok-first-2.first, e.0, (search rules), (rw (← c.in_ok-first.ensures.behind) e.1), e.2)) c.order_to_field.ensures

@@ -1,6 +1,5 @@
-use Rattle.std.proofs.Common.{rules}
 use Rattle.std.proofs.lemmas.Result.{IfOk-weaker}
 use Rattle.bson_rows.proofs.keys.key.Goals as goal
 
 pub returns : goal.returns
-returns c = IfOk-weaker c.digits.result _ _ (λ answer e. (c.in_ok-field.field, c.in_ok-field.ensures, (search rules))) c.digits.ensures
+returns c = IfOk-weaker c.key_behind_ff.result _ _ (λ answer e. (c.in_ok-field.field, c.in_ok-field.ensures, e)) c.key_behind_ff.ensures
