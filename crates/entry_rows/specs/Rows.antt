@@ -27,9 +27,13 @@ use Rattle.update_model.specs.declared.fault.UpdateFault.TheVariants as update_f
 abbrev pub Document : Type 0
 Document = List (List ℕ × Value)
 
+-- a text writes a value
+unfoldable pub WriteValue : List ℕ → Value → Type 0
+WriteValue text value = (tree : Tree) × (tree_of_text text ≡ Ok tree) × (value_of tree ≡ Ok value)
+
 -- a text writes a document
-unfoldable pub Write : List ℕ → Document → Type 0
-Write text doc = (tree : Tree) × (tree_of_text text ≡ Ok tree) × (value_of tree ≡ Ok (Object doc))
+abbrev pub Write : List ℕ → Document → Type 0
+Write text doc = WriteValue text (Object doc)
 
 unfoldable pub value_text : Value → List ℕ
 value_text v = text_of (tree_of v)

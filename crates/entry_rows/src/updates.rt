@@ -1,5 +1,6 @@
 //! Operators, updates by them, and the actions that record updates.
 ghost use Rattle.std.specs.Prelude.{◌≡◌, ◌++◌, IfOk, string_bytes};
+ghost use Rattle.std.specs.Fmt.{decimal};
 ghost use Rattle.entry_rows.specs.Rows.{action_text, document_json, touches_text};
 
 use crate::faults::{ops_fault, update_fault};
@@ -12,29 +13,21 @@ use entry_model::Action;
 use row_script::{answer, refused, words};
 use std::alloc::Global;
 use update_action::update_action;
-use update_ops::{Ops, UpdateFault, Updated, update};
+use update_ops::{Ops, Updated, update};
+
+fn count_text(alloc: Global, count: usize) -> Result<String>
+    ensures { IfOk result (λ text. string_bytes text ≡ decimal count) }
+{
+    Ok(format!(in alloc; "{count}")?)
+}
 
 /// How many operators a document has, or its first fault.
 pub fn operators(alloc: Global, json: &str) -> Result<String> {
-    match Ops::read(alloc, &document(alloc, json)?) {
-        Ok(ops) => Ok(format!(in alloc; "{}", ops.operators().len())?),
+    let doc = document(alloc, json)?;
+    match Ops::read(alloc, &doc) {
+        Ok(ops) => count_text(alloc, ops.operators().len()),
         Err(fault) => answer(alloc, ops_fault(fault)),
     }
-}
-
-// The document after an update by the operators of the other one, and its touches.
-fn outcome(alloc: Global, doc: &Doc, ops: &Doc) -> Result<Result<Updated, UpdateFault>> {
-    match Ops::read(alloc, ops) {
-        Ok(ops) => Ok(update(alloc, doc, &ops)),
-        Err(_) => refused("no operators"),
-    }
-}
-
-// What comes of a document and operators.
-fn outcome_of(alloc: Global, text: &str) -> Result<Result<Updated, UpdateFault>> {
-    let (doc, ops) = words(text)?;
-    let doc = document(alloc, doc)?;
-    outcome(alloc, &doc, &document(alloc, ops)?)
 }
 
 fn updated_text(alloc: Global, updated: &Updated) -> Result<String>
@@ -44,22 +37,6 @@ fn updated_text(alloc: Global, updated: &Updated) -> Result<String>
     put_document(alloc, &mut text, &updated.doc)?;
     put_touches(alloc, &mut text, updated.touches.as_slice())?;
     Ok(text)
-}
-
-/// The document after an update, and the touches; or the refusal.
-pub fn updated(alloc: Global, text: &str) -> Result<String> {
-    match outcome_of(alloc, text)? {
-        Ok(updated) => updated_text(alloc, &updated),
-        Err(fault) => answer(alloc, update_fault(fault)),
-    }
-}
-
-/// How many touches an update has, or the refusal.
-pub fn touches(alloc: Global, text: &str) -> Result<String> {
-    match outcome_of(alloc, text)? {
-        Ok(updated) => Ok(format!(in alloc; "{}", updated.touches.len())?),
-        Err(fault) => answer(alloc, update_fault(fault)),
-    }
 }
 
 fn action_of(alloc: Global, form: Form, updated: &Updated) -> Result<Action> {
@@ -80,12 +57,73 @@ fn action_text(alloc: Global, action: &Action) -> Result<String>
     Ok(text)
 }
 
+fn recorded_text(alloc: Global, form: Form, updated: &Updated) -> Result<String> {
+    let action = action_of(alloc, form, updated)?;
+    let text = action_text(alloc, &action);
+    drop(action);
+    text
+}
+
+// What is asked of an update.
+#[derive(Clone, Copy)]
+enum Asked {
+    Document,
+    Count,
+    Action(Form),
+}
+
+// What is shown of an update.
+fn shown(alloc: Global, asked: Asked, updated: &Updated) -> Result<String> {
+    match asked {
+        Asked::Document => updated_text(alloc, updated),
+        Asked::Count => count_text(alloc, updated.touches.len()),
+        Asked::Action(form) => recorded_text(alloc, form, updated),
+    }
+}
+
+// What is shown of the update of a document, or the refusal.
+fn shown_or_refusal(alloc: Global, asked: Asked, doc: &Doc, ops: &Ops) -> Result<String> {
+    match update(alloc, doc, ops) {
+        Ok(updated) => shown(alloc, asked, &updated),
+        Err(fault) => answer(alloc, update_fault(fault)),
+    }
+}
+
+// The operators that the text writes.
+fn written_ops(alloc: Global, json: &str) -> Result<Ops> {
+    let doc = document(alloc, json)?;
+    match Ops::read(alloc, &doc) {
+        Ok(ops) => Ok(ops),
+        Err(_) => refused("no operators"),
+    }
+}
+
+// The same by the operators that the text writes.
+fn shown_by(alloc: Global, asked: Asked, doc: &Doc, json: &str) -> Result<String> {
+    let ops = written_ops(alloc, json)?;
+    shown_or_refusal(alloc, asked, doc, &ops)
+}
+
+// The same of a document and operators.
+fn shown_of(alloc: Global, asked: Asked, text: &str) -> Result<String> {
+    let (doc, ops) = words(text)?;
+    let doc = document(alloc, doc)?;
+    shown_by(alloc, asked, &doc, ops)
+}
+
+/// The document after an update, and the touches; or the refusal.
+pub fn updated(alloc: Global, text: &str) -> Result<String> {
+    shown_of(alloc, Asked::Document, text)
+}
+
+/// How many touches an update has, or the refusal.
+pub fn touches(alloc: Global, text: &str) -> Result<String> {
+    shown_of(alloc, Asked::Count, text)
+}
+
 /// The action that records an update, in the form 1 or 2; or the refusal.
 pub fn recorded(alloc: Global, text: &str) -> Result<String> {
     let (form, rest) = words(text)?;
     let form = if form == "1" { Form::V1 } else { Form::V2 };
-    match outcome_of(alloc, rest)? {
-        Ok(updated) => action_text(alloc, &action_of(alloc, form, &updated)?),
-        Err(fault) => answer(alloc, update_fault(fault)),
-    }
+    shown_of(alloc, Asked::Action(form), rest)
 }
