@@ -6,51 +6,77 @@ use bson_view::{Held, View};
 use document_lines::{Lines, ListForm};
 use extjson::value_of;
 use json_text::parse;
+use json_tree::Tree;
 use row_script::{answer, refused};
 use std::alloc::Global;
 
-fn document(alloc: Global, text: &str) -> Result<Doc> {
-    match value_of(alloc, &parse(alloc, text)?)? {
+fn document_of(alloc: Global, tree: &Tree) -> Result<Doc> {
+    match value_of(alloc, tree)? {
         Value::Object(doc) => Ok(doc),
         _ => refused("no document"),
     }
 }
 
+fn document(alloc: Global, text: &str) -> Result<Doc> {
+    let tree = parse(alloc, text)?;
+    document_of(alloc, &tree)
+}
+
 // A line without its end.
-fn line_of(alloc: Global, held: Held<'_>, form: ListForm) -> Result<String> {
-    let mut lines = Lines::new(alloc);
-    let line = std::str::from_utf8(lines.line(held, form)?)?;
+fn ended(alloc: Global, line: &[u8]) -> Result<String> {
+    let line = std::str::from_utf8(line)?;
     answer(alloc, line.strip_suffix('\n').unwrap_or("no end"))
 }
 
-// Whether a line of the built document is that of its bytes.
-fn is_spelled_so(alloc: Global, doc: &Doc, form: ListForm, built: &str) -> Result<bool> {
-    let bytes = encode(alloc, doc)?;
-    match View::check(bytes.as_slice(), 1000, 100) {
-        Ok(view) => Ok(line_of(alloc, Held::Spelled(view), form)?.as_str() == built),
+fn line_by(alloc: Global, lines: &mut Lines, held: Held<'_>, form: ListForm) -> Result<String> {
+    let line = lines.line(held, form)?;
+    ended(alloc, line)
+}
+
+fn line_of(alloc: Global, held: Held<'_>, form: ListForm) -> Result<String> {
+    let mut lines = Lines::new(alloc);
+    line_by(alloc, &mut lines, held, form)
+}
+
+fn spelled_line(alloc: Global, bytes: &[u8], form: ListForm) -> Result<String> {
+    match View::check(bytes, 1000, 100) {
+        Ok(view) => line_of(alloc, Held::Spelled(view), form),
         Err(_) => refused("no document"),
     }
 }
 
+// The line of a document from its bytes.
+fn line_again(alloc: Global, doc: &Doc, form: ListForm) -> Result<String> {
+    let bytes = encode(alloc, doc)?;
+    spelled_line(alloc, bytes.as_slice(), form)
+}
+
+// The line of a document, where that of its bytes is the same.
 fn both(alloc: Global, doc: &Doc, form: ListForm) -> Result<String> {
     let built = line_of(alloc, Held::Built(doc), form)?;
-    if is_spelled_so(alloc, doc, form, built.as_str())? {
-        return Ok(built);
+    let spelled = line_again(alloc, doc, form)?;
+    if spelled.as_str() == built.as_str() {
+        return answer(alloc, built.as_str());
     }
     answer(alloc, "another line of its bytes")
+}
+
+fn both_forms(alloc: Global, doc: &Doc) -> Result<String> {
+    let hex = both(alloc, doc, ListForm::Hex)?;
+    if !hex.as_str().starts_with("doc ") {
+        return Ok(hex);
+    }
+    both(alloc, doc, ListForm::Json)
 }
 
 /// The line of a document as JSON, where both ways to its lines of both forms tell the same.
 pub fn line(alloc: Global, text: &str) -> Result<String> {
     let doc = document(alloc, text)?;
-    let hex = both(alloc, &doc, ListForm::Hex)?;
-    if !hex.as_str().starts_with("doc ") {
-        return Ok(hex);
-    }
-    both(alloc, &doc, ListForm::Json)
+    both_forms(alloc, &doc)
 }
 
 /// The line of a document in hexadecimal digits.
 pub fn hex_line(alloc: Global, text: &str) -> Result<String> {
-    both(alloc, &document(alloc, text)?, ListForm::Hex)
+    let doc = document(alloc, text)?;
+    both(alloc, &doc, ListForm::Hex)
 }
