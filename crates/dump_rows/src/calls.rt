@@ -12,7 +12,7 @@ use anyhow::{Result, bail};
 use bson_value::NsName;
 use dump_run::Dump;
 use row_script::Respondent;
-use schedule_model::Line;
+use schedule_model::{Command, Line};
 use schedule_text::Schedule;
 use std::alloc::Global;
 use store_core::Store;
@@ -50,32 +50,76 @@ fn sink(alloc: Global, failing: Option<u64>) -> Result<MemSink> {
     Ok(MemSink::new(alloc, fails))
 }
 
+// The words of a restore, with or without the replay of the oplog.
+fn restore_words(alloc: Global, replay: bool) -> Result<Vec<String>> {
+    let mut words = Vec::new(alloc);
+    put_word(alloc, &mut words, "restore")?;
+    put_word(alloc, &mut words, "--archive")?;
+    if replay {
+        put_word(alloc, &mut words, "--oplogReplay")?;
+    }
+    Ok(words)
+}
+
+fn put_word(alloc: Global, words: &mut Vec<String>, word: &str) -> Result<()> {
+    let word = String::from_str(alloc, word)?;
+    words.push(word)?;
+    Ok(())
+}
+
+// These bytes as an input, which gives up to 4096 of them a read.
+fn source(alloc: Global, bytes: &[u8]) -> Result<MemSource> {
+    let pieces = vec![in alloc; 4096]?;
+    let bytes = bytes.to_vec(alloc)?;
+    Ok(MemSource::new(bytes, pieces, Vec::new(alloc)))
+}
+
+// What a call tells, in one line.
+fn told(alloc: Global, status: u8, length: usize, report: &str) -> Result<String> {
+    match report.trim_end() {
+        "" => Ok(format!(in alloc; "status {status}, {length} bytes:")?),
+        line => Ok(format!(in alloc; "status {status}, {length} bytes: {line}")?),
+    }
+}
+
 // What the program tells of a restore of these bytes, or how long its listing is.
 fn restored(alloc: Global, archive: &[u8], replay: bool) -> Result<String> {
-    let mut words = Vec::new(alloc);
-    words.push(String::from_str(alloc, "restore")?)?;
-    words.push(String::from_str(alloc, "--archive")?)?;
-    if replay {
-        words.push(String::from_str(alloc, "--oplogReplay")?)?;
-    }
-    let pieces = vec![in alloc; 4096]?;
-    let mut input = MemSource::new(archive.to_vec(alloc)?, pieces, Vec::new(alloc));
+    let words = restore_words(alloc, replay)?;
+    let mut input = source(alloc, archive)?;
     let mut output = sink(alloc, None)?;
     let mut report = sink(alloc, None)?;
     let status = tools(alloc, &words, &mut input, &mut output, &mut report);
     let length = output.written().len();
-    let line = String::from_utf8_lossy(alloc, report.written())?;
-    let answer = format!(in alloc; "status {status}, {length} bytes: {line}")?;
-    Ok(String::from_str(alloc, answer.trim_end())?)
+    match std::str::from_utf8(report.written()) {
+        Ok(report) => told(alloc, status, length, report),
+        Err(_) => bail!("a report that is no text"),
+    }
 }
 
 impl Calls {
     pub fn new(alloc: Global) -> Result<Calls> {
+        let sink = sink(alloc, None)?;
+        let store = Store::new(alloc, 1000, None)?;
         Ok(Calls {
-            store: Store::new(alloc, 1000, None)?,
-            sink: sink(alloc, None)?,
+            store,
+            sink,
             dump: None,
         })
+    }
+
+    // A new store, with an oplog of so many entries, and no dump.
+    fn begin(&mut self, alloc: Global, text: &str) -> Result<String> {
+        let entries = text.parse::<usize>()?.max(1).min(1_000_000);
+        self.store = Store::new(alloc, entries, None)?;
+        self.sink = sink(alloc, None)?;
+        self.dump = None;
+        answers::step(alloc, Ok(()))
+    }
+
+    fn fail(&mut self, alloc: Global, text: &str) -> Result<String> {
+        let write = text.parse::<u64>()?;
+        self.sink = sink(alloc, Some(write))?;
+        answers::step(alloc, Ok(()))
     }
 
     // A command is checked, and then run: both answer the same.
@@ -87,16 +131,20 @@ impl Calls {
         let Some(line) = schedule.lines.as_slice().first() else {
             bail!("no line");
         };
-        let Line::Cmd(command) = &line.line else {
-            bail!("no command");
-        };
+        match &line.line {
+            Line::Cmd(command) => self.run(alloc, command),
+            _ => bail!("no command"),
+        }
+    }
+
+    fn run(&mut self, alloc: Global, command: &Command) -> Result<String> {
         if self.store.recorded() >= 4_000_000_000 {
             bail!("more entries than a store records");
         }
         let checked = self.store.check(command);
         let applied = self.store.apply(command);
         if checked != applied {
-            return Ok(String::from_str(alloc, "two answers")?);
+            bail!("two answers");
         }
         answers::command(alloc, applied)
     }
@@ -148,17 +196,8 @@ impl Calls {
 impl Respondent for Calls {
     fn answer(&mut self, alloc: Global, verb: &str, text: &str) -> Result<String> {
         match verb {
-            "new" => {
-                let cap = text.parse::<usize>()?.max(1).min(1_000_000);
-                self.store = Store::new(alloc, cap, None)?;
-                self.sink = sink(alloc, None)?;
-                self.dump = None;
-                answers::step(alloc, Ok(()))
-            }
-            "fail" => {
-                self.sink = sink(alloc, Some(text.parse::<u64>()?))?;
-                answers::step(alloc, Ok(()))
-            }
+            "new" => self.begin(alloc, text),
+            "fail" => self.fail(alloc, text),
             "do" => self.command(alloc, text),
             "recorded" => answers::count(alloc, self.store.recorded()),
             "start" => self.start(alloc),

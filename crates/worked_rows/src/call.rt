@@ -37,6 +37,39 @@ fn failing(alloc: Global, end: End, failure: Option<Failure>) -> Result<Vec<u64>
     Ok(calls)
 }
 
+// An input of these bytes, which come in pieces of so many, at least one.
+fn source(
+    alloc: Global,
+    bytes: &[u8],
+    piece: usize,
+    failure: Option<Failure>,
+) -> Result<MemSource, AllocError> {
+    let fails = failing(alloc, End::Input, failure)?;
+    let pieces = vec![in alloc; piece.max(1)]?;
+    let bytes = bytes.to_vec(alloc)?;
+    Ok(MemSource::new(bytes, pieces, fails))
+}
+
+fn sink(alloc: Global, end: End, failure: Option<Failure>) -> Result<MemSink, AllocError> {
+    let fails = failing(alloc, end, failure)?;
+    Ok(MemSink::new(alloc, fails))
+}
+
+fn answer_of(
+    alloc: Global,
+    status: u8,
+    output: &[u8],
+    report: &[u8],
+) -> Result<Answer, AllocError> {
+    let output = output.to_vec(alloc)?;
+    let report = report.to_vec(alloc)?;
+    Ok(Answer {
+        status,
+        output,
+        report,
+    })
+}
+
 /// Calls the program with these words and an input that comes in pieces of so many bytes, at least one.
 pub fn call(
     alloc: Global,
@@ -45,18 +78,9 @@ pub fn call(
     piece: usize,
     failure: Option<Failure>,
 ) -> Result<Answer, AllocError> {
-    let pieces = vec![in alloc; piece.max(1)]?;
-    let mut source = MemSource::new(
-        input.to_vec(alloc)?,
-        pieces,
-        failing(alloc, End::Input, failure)?,
-    );
-    let mut output = MemSink::new(alloc, failing(alloc, End::Output, failure)?);
-    let mut report = MemSink::new(alloc, failing(alloc, End::Report, failure)?);
+    let mut source = source(alloc, input, piece, failure)?;
+    let mut output = sink(alloc, End::Output, failure)?;
+    let mut report = sink(alloc, End::Report, failure)?;
     let status = tools(alloc, words, &mut source, &mut output, &mut report);
-    Ok(Answer {
-        status,
-        output: output.written().to_vec(alloc)?,
-        report: report.written().to_vec(alloc)?,
-    })
+    answer_of(alloc, status, output.written(), report.written())
 }

@@ -17,7 +17,7 @@ use crate::wanted::Wanted;
 use anyhow::bail;
 use schedule_text::drill;
 use std::alloc::{AllocError, Global};
-use std::io::Write;
+use std::io::{self, Write};
 
 /// Where a script stands.
 #[derive(Drop)]
@@ -49,7 +49,8 @@ fn end_of(name: &str) -> Option<End> {
 fn words_of(alloc: Global, text: &str) -> Result<Vec<String>, AllocError> {
     let mut words = Vec::new(alloc);
     for word in text.split(' ') {
-        words.push(String::from_str(alloc, word)?)?;
+        let word = String::from_str(alloc, word)?;
+        words.push(word)?;
     }
     Ok(words)
 }
@@ -58,6 +59,37 @@ fn put_line(bytes: &mut Vec<u8>, text: &str) -> Result<(), AllocError> {
     bytes.extend_from_slice(text.as_bytes())?;
     bytes.push(b'\n')?;
     Ok(())
+}
+
+// The bytes that these digits write.
+fn put_bytes(alloc: Global, bytes: &mut Vec<u8>, digits: &str) -> anyhow::Result<()> {
+    let more = hex::decode(alloc, digits)?;
+    bytes.extend_from_slice(&more)?;
+    Ok(())
+}
+
+fn put_letters(bytes: &mut Vec<u8>, count: u32) -> Result<(), AllocError> {
+    for _ in 0..count {
+        bytes.push(b'x')?;
+    }
+    Ok(())
+}
+
+// The text of a drill of so many rounds.
+fn put_drill(alloc: Global, bytes: &mut Vec<u8>, rounds: u32) -> anyhow::Result<()> {
+    if rounds < 1 || rounds > 100_000 {
+        bail!("no drill: {rounds}");
+    }
+    let text = drill(alloc, rounds)?;
+    bytes.extend_from_slice(text.as_slice())?;
+    Ok(())
+}
+
+// The call of an end that fails, the first where none is named.
+fn failure_of(text: &str) -> anyhow::Result<Option<Failure>> {
+    let (name, call) = text.split_once(' ').unwrap_or((text, "0"));
+    let call = call.parse::<u64>()?;
+    Ok(end_of(name).map(|end| Failure { end, call }))
 }
 
 impl Script {
@@ -119,10 +151,25 @@ impl Script {
         let Some(words) = self.words.take() else {
             return Ok(());
         };
-        let is_wanted = match self.each {
-            Some(end) => self.each_is_wanted(alloc, &words, end)?,
-            None => self.is_wanted(alloc, &words)?,
-        };
+        let is_wanted = self.makes_wanted(alloc, &words)?;
+        drop(words);
+        self.count(out, is_wanted)?;
+        self.wanted = Wanted::new(alloc);
+        self.failure = None;
+        self.each = None;
+        Ok(())
+    }
+
+    // Makes a call, or each of those that fail. Whether what is answered is wanted.
+    fn makes_wanted(&mut self, alloc: Global, words: &[String]) -> Result<bool, AllocError> {
+        match self.each {
+            Some(end) => self.each_is_wanted(alloc, words, end),
+            None => self.is_wanted(alloc, words),
+        }
+    }
+
+    // Counts a call, and tells of it where it isn't answered as it should be.
+    fn count<W: Write>(&mut self, out: &mut W, is_wanted: bool) -> io::Result<()> {
         self.calls = self.calls.saturating_add(1);
         if !is_wanted {
             self.differ = self.differ.saturating_add(1);
@@ -130,9 +177,6 @@ impl Script {
             let call = self.calls;
             writeln!(out, "{row}: call {call} differs")?;
         }
-        self.wanted = Wanted::new(alloc);
-        self.failure = None;
-        self.each = None;
         Ok(())
     }
 
@@ -148,28 +192,13 @@ impl Script {
         match verb {
             ">" => put_line(&mut self.input, text)?,
             "+" => self.input.extend_from_slice(text.as_bytes())?,
-            "x" => self.input.extend_from_slice(&hex::decode(alloc, text)?)?,
+            "x" => put_bytes(alloc, &mut self.input, text)?,
             "cut" => self.input.truncate(text.parse::<usize>()?),
             "pieces" => self.piece = text.parse::<usize>()?,
-            "letters" => {
-                for _ in 0..text.parse::<u32>()? {
-                    self.input.push(b'x')?;
-                }
-            }
-            "drill" => {
-                let rounds = text.parse::<u32>()?;
-                if rounds < 1 || rounds > 100_000 {
-                    bail!("no drill: {rounds}");
-                }
-                self.input
-                    .extend_from_slice(drill(alloc, rounds)?.as_slice())?;
-            }
+            "letters" => put_letters(&mut self.input, text.parse::<u32>()?)?,
+            "drill" => put_drill(alloc, &mut self.input, text.parse::<u32>()?)?,
             "each" => self.each = end_of(text),
-            "fail" => {
-                let (name, call) = text.split_once(' ').unwrap_or((text, "0"));
-                let call = call.parse::<u64>()?;
-                self.failure = end_of(name).map(|end| Failure { end, call });
-            }
+            "fail" => self.failure = failure_of(text)?,
             _ => bail!("no direction of a script: {verb}"),
         }
         Ok(())
@@ -202,10 +231,7 @@ impl Script {
             "told" => self.wanted.told = Some(text.parse::<usize>()?),
             "bytes" => self.wanted.length = Some(text.parse::<usize>()?),
             "<" => put_line(&mut self.wanted.output, text)?,
-            "=" => self
-                .wanted
-                .output
-                .extend_from_slice(&hex::decode(alloc, text)?)?,
+            "=" => put_bytes(alloc, &mut self.wanted.output, text)?,
             "!" => put_line(&mut self.wanted.report, text)?,
             _ => {
                 self.settle(alloc, out)?;
