@@ -1,6 +1,7 @@
 //! Collections, and what each call makes of them.
-ghost use Rattle.std.specs.Prelude.{◌≡◌, ◌++◌, [], ◌∷◌, Option, None, Some, Ok, OnOk, IfOk, is_some, option_map, flat_map, string_bytes};
+ghost use Rattle.std.specs.Prelude.{◌≡◌, ◌+◌, ◌++◌, ℕ, [], ◌∷◌, Option, None, Some, Ok, OnOk, IfOk, codes, is_some, option_map, flat_map, string_bytes};
 ghost use Rattle.std.specs.FinMap as map;
+ghost use Rattle.std.specs.Fmt.{decimal};
 ghost use Rattle.row_script.specs.Rows.{before_blank, behind_blank};
 ghost use Rattle.json_tree.specs.declared.tree.Tree.{Tree as Trees};
 ghost use Rattle.json_text.specs.Print.{text_of};
@@ -9,22 +10,22 @@ ghost use Rattle.bson_value.specs.declared.namespace.NsName.{NsName as Name};
 ghost use Rattle.bson_value.specs.declared.value.Value.{Value as Datum};
 ghost use Rattle.bson_encode.specs.Key.{key_of};
 ghost use Rattle.coll_state.specs.ChangeAll.{change_all};
-ghost use Rattle.coll_state.specs.Changes.{no_rows, put, remove, create, drop_ns, rename, add_index, drop_index, document_at, has_index};
+ghost use Rattle.coll_state.specs.Changes.{no_rows, put, remove, create, drop_db, drop_ns, rename, add_index, drop_index, document_at, has_index};
 ghost use Rattle.coll_state.specs.Kept.{shown, shown_in};
 ghost use Rattle.coll_state.specs.Rows.{Document};
 ghost use Rattle.state_rows.specs.Rows.{Names, Write, WriteValue, collection_text, definition_text, held_text, kind_text, truth_text};
 
-use crate::changes::change;
+use crate::changes;
 use crate::texts::{document, levels, namespace, value};
 use anyhow::Result;
-use bson_value::{CText, Doc, NsName};
+use bson_value::{CText, Doc, NsName, Value};
 use bson_view::Held;
-use coll_state::{COUNT_LIMIT, Change, State};
+use coll_state::{COUNT_LIMIT, State};
 use containers::List as JList;
 use json_text::{parse, print};
 use json_tree::Tree;
 use row_script::{answer, number, refused, truth, words};
-use std::alloc::Global;
+use std::alloc::{AllocError, Global};
 
 /// The collections, and the incarnation that was asked for last.
 #[derive(Drop)]
@@ -44,6 +45,109 @@ fn put_document(state: &mut State, alloc: Global, ns: &NsName, doc: Doc) -> Resu
     answer(alloc, "")
 }
 
+fn put_written(state: &mut State, alloc: Global, ns: &NsName, json: &str) -> Result<String>
+    ensures { OnOk result ((doc : Document) × Write json.now doc × (state.new ≡ put ns.now doc state.old)) }
+{
+    let doc = document(alloc, json)?;
+    put_document(state, alloc, ns, doc)
+}
+
+// Sets a field of so many levels.
+fn set_levels(doc: &mut Doc, alloc: Global, count: usize) -> Result<()> {
+    let levels = levels(alloc, count)?;
+    let name = CText::of_text(alloc, "deep")?;
+    Ok(doc.set(name, levels)?)
+}
+
+// Puts a document with a field of so many levels in it.
+fn put_deep(
+    state: &mut State,
+    alloc: Global,
+    ns: &NsName,
+    count: usize,
+    json: &str,
+) -> Result<String> {
+    let mut doc = document(alloc, json)?;
+    set_levels(&mut doc, alloc, count)?;
+    put_document(state, alloc, ns, doc)
+}
+
+// Takes the document of an `_id` out.
+fn remove(state: &mut State, alloc: Global, ns: &NsName, json: &str) -> Result<String>
+    ensures { IfOk result (λ answer. (id : Datum) × WriteValue json.now id × (state.new ≡ remove ns.now (key_of id) state.old)
+        × (string_bytes answer ≡ truth_text (is_some (document_at ns.now (key_of id) state.old.tables)))) }
+{
+    let id = value(alloc, json)?;
+    truth(alloc, state.remove(ns, &id))
+}
+
+// Whether there is a copy of a document.
+fn is_copied(state: &State, alloc: Global, ns: &NsName, id: &Value) -> Result<bool, AllocError>
+    ensures { IfOk result (λ is_so. is_so ≡ is_some (document_at ns.now (key_of id.now) state.now.tables)) }
+{
+    let copy = state.copy_of(alloc, ns, id)?;
+    Ok(copy.is_some())
+}
+
+// How the document of an `_id` is held, and whether there is a copy of it.
+fn held_text(state: &State, alloc: Global, ns: &NsName, id: &Value) -> Result<String>
+    ensures { IfOk result (λ text. string_bytes text ≡ held_text (document_at ns.now (key_of id.now) state.now.tables)) }
+{
+    let kind = kind_of(state.get(ns, id));
+    let is_copied = is_copied(state, alloc, ns, id)?;
+    Ok(format!(in alloc; "{kind} {is_copied}")?)
+}
+
+fn get(state: &State, alloc: Global, ns: &NsName, json: &str) -> Result<String>
+    ensures { IfOk result (λ answer. (id : Datum) × WriteValue json.now id
+        × (string_bytes answer ≡ held_text (document_at ns.now (key_of id) state.now.tables))) }
+{
+    let id = value(alloc, json)?;
+    held_text(state, alloc, ns, &id)
+}
+
+// Replaces the document of an `_id`.
+fn replace(state: &mut State, alloc: Global, ns: &NsName, text: &str) -> Result<()>
+    ensures { OnOk result ((id : Datum) × (doc : Document) × WriteValue (before_blank text.now) id × Write (behind_blank text.now) doc
+        × (state.new ≡ change_all (record { ns = ns.now; id = id; doc = None } ∷ record { ns = ns.now; id = id; doc = Some doc } ∷ []) state.old)) }
+{
+    let (id, json) = words(text)?;
+    let id = value(alloc, id)?;
+    changes::replace(state, alloc, ns, &id, json)
+}
+
+// The numbers of so many documents behind a number, and what `x` is in them.
+fn after_text(
+    state: &State,
+    alloc: Global,
+    ns: &NsName,
+    first: usize,
+    count: usize,
+) -> Result<String> {
+    let mut seen = Vec::new(alloc);
+    for (place, held) in state.after(ns, first as u128, count) {
+        seen.push((place, x_of(held)))?;
+    }
+    Ok(format!(in alloc; "{:?}", seen.as_slice())?)
+}
+
+fn create(state: &mut State, alloc: Global, ns: &NsName, json: &str) -> Result<()>
+    ensures { OnOk result ((options : Trees) × (tree_of_text json.now ≡ Ok options) × (state.new ≡ create ns.now options state.old)) }
+{
+    if state.count() >= COUNT_LIMIT {
+        return refused("too many");
+    }
+    let options = parse(alloc, json)?;
+    Ok(state.create(alloc, ns, options)?)
+}
+
+fn add_index(state: &mut State, alloc: Global, ns: &NsName, json: &str) -> Result<()>
+    ensures { OnOk result ((def : Trees) × (tree_of_text json.now ≡ Ok def) × (state.new ≡ add_index ns.now def state.old)) }
+{
+    let def = parse(alloc, json)?;
+    Ok(state.add_index(ns, def)?)
+}
+
 // Renames a collection that is there to a name that isn't.
 fn renamed(state: &mut State, alloc: Global, from: &NsName, to: &NsName) -> Result<String>
     ensures { OnOk result (state.new ≡ rename from.now to.now state.old) }
@@ -53,6 +157,13 @@ fn renamed(state: &mut State, alloc: Global, from: &NsName, to: &NsName) -> Resu
     }
     state.rename(alloc, from, to)?;
     answer(alloc, "")
+}
+
+fn renamed_to(state: &mut State, alloc: Global, from: &NsName, name: &str) -> Result<String>
+    ensures { OnOk result ((to : Name) × Names name.now to × (state.new ≡ rename from.now to state.old)) }
+{
+    let to = namespace(alloc, name)?;
+    renamed(state, alloc, from, &to)
 }
 
 // How a document is held.
@@ -69,6 +180,23 @@ fn kind_of(held: Option<Held<'_>>) -> &'static str
 // What `x` is in a document.
 fn x_of(held: Held<'_>) -> Option<i32> {
     held.field("x")?.read().as_i32()
+}
+
+fn incarnation_of(state: &State, alloc: Global, name: &str) -> Result<Option<u128>>
+    ensures { IfOk result (λ incarnation. (ns : Name) × Names name.now ns
+        × (incarnation ≡ option_map (λ t. t.incarnation) (map.get state.now.tables ns))) }
+{
+    let ns = namespace(alloc, name)?;
+    Ok(state.incarnation(&ns))
+}
+
+fn put_name(names: &mut String, ns: &NsName) -> Result<(), AllocError>
+    ensures { OnOk result (string_bytes names.new ≡ string_bytes names.old ++ ns.now.db ++ codes "." ++ ns.now.coll ++ codes ";") }
+{
+    names.push_str(ns.db.as_str())?;
+    names.push('.')?;
+    names.push_str(ns.coll.as_str())?;
+    names.push(';')
 }
 
 impl Collections {
@@ -96,20 +224,16 @@ impl Collections {
     {
         let (name, json) = words(text)?;
         let ns = namespace(alloc, name)?;
-        put_document(&mut self.state, alloc, &ns, document(alloc, json)?)
+        put_written(&mut self.state, alloc, &ns, json)
     }
 
     /// The same with a field of so many levels in it.
     pub fn put_deep(&mut self, alloc: Global, text: &str) -> Result<String> {
         let (name, rest) = words(text)?;
         let (count, json) = words(rest)?;
+        let count = number(count)?;
         let ns = namespace(alloc, name)?;
-        let mut doc = document(alloc, json)?;
-        doc.set(
-            CText::of_text(alloc, "deep")?,
-            levels(alloc, number(count)?)?,
-        )?;
-        put_document(&mut self.state, alloc, &ns, doc)
+        put_deep(&mut self.state, alloc, &ns, count, json)
     }
 
     /// Takes a document out, and puts one with the same `_id`, at once.
@@ -119,20 +243,8 @@ impl Collections {
             × (self.new.state ≡ change_all (record { ns = ns; id = id; doc = None } ∷ record { ns = ns; id = id; doc = Some doc } ∷ []) self.old.state)) }
     {
         let (name, rest) = words(text)?;
-        let (id, json) = words(rest)?;
         let ns = namespace(alloc, name)?;
-        let id = value(alloc, id)?;
-        let first = Change {
-            ns: ns.copy(alloc)?,
-            id: id.copy(alloc)?,
-            doc: None,
-        };
-        let second = Change {
-            ns,
-            id,
-            doc: Some(document(alloc, json)?),
-        };
-        change(&mut self.state, alloc, first, second)?;
+        replace(&mut self.state, alloc, &ns, rest)?;
         answer(alloc, "")
     }
 
@@ -144,7 +256,7 @@ impl Collections {
     {
         let (name, id) = words(text)?;
         let ns = namespace(alloc, name)?;
-        truth(alloc, self.state.remove(&ns, &value(alloc, id)?))
+        remove(&mut self.state, alloc, &ns, id)
     }
 
     /// How a document is held, and whether there is a copy of it.
@@ -154,25 +266,17 @@ impl Collections {
     {
         let (name, id) = words(text)?;
         let ns = namespace(alloc, name)?;
-        let id = value(alloc, id)?;
-        let kind = kind_of(self.state.get(&ns, &id));
-        let is_copied = self.state.copy_of(alloc, &ns, &id)?.is_some();
-        Ok(format!(in alloc; "{kind} {is_copied}")?)
+        get(&self.state, alloc, &ns, id)
     }
 
     /// The numbers of so many documents behind a number, and what `x` is in them.
     pub fn after(&self, alloc: Global, text: &str) -> Result<String> {
         let (name, rest) = words(text)?;
         let (first, count) = words(rest)?;
+        let first = number(first)?;
+        let count = number(count)?;
         let ns = namespace(alloc, name)?;
-        let mut seen = Vec::new(alloc);
-        for (place, held) in self
-            .state
-            .after(&ns, number(first)? as u128, number(count)?)
-        {
-            seen.push((place, x_of(held)))?;
-        }
-        Ok(format!(in alloc; "{:?}", seen.as_slice())?)
+        after_text(&self.state, alloc, &ns, first, count)
     }
 
     /// A collection anew.
@@ -182,11 +286,7 @@ impl Collections {
     {
         let (name, json) = words(text)?;
         let ns = namespace(alloc, name)?;
-        let options = parse(alloc, json)?;
-        if self.state.count() >= COUNT_LIMIT {
-            return refused("too many");
-        }
-        self.state.create(alloc, &ns, options)?;
+        create(&mut self.state, alloc, &ns, json)?;
         answer(alloc, "")
     }
 
@@ -197,8 +297,7 @@ impl Collections {
     {
         let (from, to) = words(text)?;
         let from = namespace(alloc, from)?;
-        let to = namespace(alloc, to)?;
-        renamed(&mut self.state, alloc, &from, &to)
+        renamed_to(&mut self.state, alloc, &from, to)
     }
 
     /// Whether a collection was there, and is dropped.
@@ -211,7 +310,11 @@ impl Collections {
     }
 
     /// How many collections a database had, which are dropped.
-    pub fn drop_database(&mut self, alloc: Global, db: &str) -> Result<String> {
+    pub fn drop_database(&mut self, alloc: Global, db: &str) -> Result<String>
+        ensures state { self.new.state ≡ drop_db db.now self.old.state }
+        ensures count { IfOk result (λ answer. (count : ℕ) × (count + map.len self.new.state.tables ≡ map.len self.old.state.tables)
+            × (string_bytes answer ≡ decimal count)) }
+    {
         let count = self.state.drop_db(db);
         Ok(format!(in alloc; "{count}")?)
     }
@@ -220,12 +323,17 @@ impl Collections {
         ensures { IfOk result (λ answer. (ns : Name) × Names name.now ns
             × (string_bytes answer ≡ truth_text (map.contains_key self.now.state.tables ns))) }
     {
-        truth(alloc, self.state.has(&namespace(alloc, name)?))
+        let ns = namespace(alloc, name)?;
+        truth(alloc, self.state.has(&ns))
     }
 
     /// Whether there is an incarnation, and it is the one that was asked for last.
-    pub fn incarnation(&mut self, alloc: Global, name: &str) -> Result<String> {
-        let incarnation = self.state.incarnation(&namespace(alloc, name)?);
+    pub fn incarnation(&mut self, alloc: Global, name: &str) -> Result<String>
+        ensures state { self.new.state ≡ self.old.state }
+        ensures incarnation { OnOk result ((ns : Name) × Names name.now ns
+            × (self.new.incarnation ≡ option_map (λ t. t.incarnation) (map.get self.old.state.tables ns))) }
+    {
+        let incarnation = incarnation_of(&self.state, alloc, name)?;
         let is_same = incarnation == self.incarnation;
         self.incarnation = incarnation;
         match incarnation {
@@ -239,10 +347,7 @@ impl Collections {
     pub fn names(&self, alloc: Global) -> Result<String> {
         let mut names = String::new(alloc);
         for ns in self.state.namespaces() {
-            names.push_str(ns.db.as_str())?;
-            names.push('.')?;
-            names.push_str(ns.coll.as_str())?;
-            names.push(';')?;
+            put_name(&mut names, ns)?;
         }
         Ok(names)
     }
@@ -254,7 +359,7 @@ impl Collections {
     {
         let (name, json) = words(text)?;
         let ns = namespace(alloc, name)?;
-        self.state.add_index(&ns, parse(alloc, json)?)?;
+        add_index(&mut self.state, alloc, &ns, json)?;
         answer(alloc, "")
     }
 
@@ -275,20 +380,36 @@ impl Collections {
             × (string_bytes answer ≡ collection_text (map.get self.now.state.tables ns))) }
     {
         let ns = namespace(alloc, name)?;
-        match (self.state.options(&ns), self.state.indexes(&ns)) {
-            (Some(options), Some(defs)) => definitions_text(alloc, options, defs),
-            _ => answer(alloc, "none"),
-        }
+        collection_text(&self.state, alloc, &ns)
     }
+}
+
+// The options of a collection, and its definitions in order.
+fn collection_text(state: &State, alloc: Global, ns: &NsName) -> Result<String>
+    ensures { IfOk result (λ text. string_bytes text ≡ collection_text (map.get state.now.tables ns.now)) }
+{
+    match (state.options(ns), state.indexes(ns)) {
+        (Some(options), Some(defs)) => definitions_text(alloc, options, defs),
+        _ => answer(alloc, "none"),
+    }
+}
+
+// Writes a definition behind a blank.
+fn put_definition(alloc: Global, text: &mut String, def: &Tree) -> Result<()>
+    ensures { OnOk result (string_bytes text.new ≡ string_bytes text.old ++ definition_text def.now) }
+{
+    let json = print(alloc, def)?;
+    text.push(' ')?;
+    Ok(text.push_str(json.as_str())?)
 }
 
 fn definitions_text(alloc: Global, options: &Tree, defs: &JList<Tree>) -> Result<String>
     ensures { IfOk result (λ text. string_bytes text ≡ text_of options.now ++ flat_map definition_text defs.now) }
 {
-    let mut text = print(alloc, options)?.into_string()?;
+    let json = print(alloc, options)?;
+    let mut text = json.into_string()?;
     for def in defs.as_slice() {
-        text.push(' ')?;
-        text.push_str(print(alloc, def)?.as_str())?;
+        put_definition(alloc, &mut text, def)?;
     }
     Ok(text)
 }

@@ -24,7 +24,8 @@ pub fn namespace(alloc: Global, text: &str) -> Result<NsName>
 pub fn value(alloc: Global, text: &str) -> Result<Value>
     ensures { IfOk result (λ value. WriteValue text.now value) }
 {
-    Ok(value_of(alloc, &parse(alloc, text)?)?)
+    let tree = parse(alloc, text)?;
+    Ok(value_of(alloc, &tree)?)
 }
 
 /// The document that the text writes.
@@ -39,8 +40,9 @@ pub fn document(alloc: Global, text: &str) -> Result<Doc>
 
 // A document with this value alone.
 fn around(alloc: Global, value: Value) -> Result<Value> {
+    let name = CText::of_text(alloc, "d")?;
     let mut doc = Doc::new(alloc);
-    doc.set(CText::of_text(alloc, "d")?, value)?;
+    doc.set(name, value)?;
     Ok(Value::Object(doc))
 }
 

@@ -3,4 +3,4 @@ use Rattle.std.proofs.lemmas.Result.{IfOk-weaker}
 use Rattle.state_rows.proofs.collections.Collections.add_index.Goals as goal
 
 pub returns : goal.returns
-returns c = IfOk-weaker c.answer.result _ _ (λ answer e. (c.in_ok-ns.ns, c.in_ok-parse.field-0, (search rules), (search rules), (search rules))) c.answer.ensures
+returns c = IfOk-weaker c.answer.result _ _ (λ answer e. (c.in_ok-ns.ns, c.in_ok-add_index.ensures.0, (search rules), (rw (← c.in_ok-name.ensures.behind) c.in_ok-add_index.ensures.1), c.in_ok-add_index.ensures.2)) c.answer.ensures
