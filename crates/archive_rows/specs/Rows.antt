@@ -12,6 +12,8 @@ use Rattle.ns_patterns.specs.Literals.{Literals}
 use Rattle.ns_patterns.specs.Matches.{Matches, Renamed}
 use Rattle.archive_format.specs.Crc.{crc_start, crc_on}
 use Rattle.archive_format.specs.Shapes.{Shaped, ShapeFault, missing_field, wrong_type, wrong_version, bad_ns, Header, Metadata, Head, ns_head_of}
+use Rattle.archive_prelude.specs.declared.prelude.Meta.{Meta}
+use Rattle.archive_prelude.specs.declared.prelude.Prelude.{Prelude}
 use Rattle.archive_format.specs.Written.{block_text, end_text, joined}
 use Rattle.capped_oplog.specs.Ring.{Entry, Ring, pushed}
 use Rattle.tool_io.specs.declared.ends.Fault.{Fault}
@@ -69,6 +71,14 @@ AreDocuments (digit ∷ digits) docs = (bytes : List ℕ) × (decode_of (digit �
 
 abbrev pub own_header : Header
 own_header = record { concurrent = pos 1; server = codes "0.0.0"; tool = codes "0.0.0" }
+
+-- the metadata of that namespace
+abbrev pub own_metadata : Meta
+own_metadata = record { ns = own_namespace; text = codes "{}" }
+
+-- the prelude of the versions 0.0.0 and these metadata
+abbrev pub prelude_over : List Meta → Prelude
+prelude_over metas = record { concurrent = pos 1; server = codes "0.0.0"; tool = codes "0.0.0"; metas = metas }
 
 -- the metadata of a prelude that a word names
 abbrev pub metas_named : List ℕ → List Metadata

@@ -1,5 +1,5 @@
 //! Checksums, headers of blocks, and blocks of the namespace `a.b`.
-ghost use Rattle.std.specs.Prelude.{◌≡◌, ℕ, List, Ok, IfOk, false, string_bytes};
+ghost use Rattle.std.specs.Prelude.{◌≡◌, ℕ, List, [], ◌∷◌, Ok, IfOk, false, string_bytes};
 ghost use Rattle.std.specs.Fmt.{radix_digits};
 ghost use Rattle.hex.specs.Hex.{decode_of};
 ghost use Rattle.row_script.specs.Rows.{behind_blank};
@@ -10,24 +10,31 @@ ghost use Rattle.archive_format.specs.Written.{begun};
 ghost use Rattle.archive_blocks.specs.Heads.{IsHeadFault};
 ghost use Rattle.archive_rows.specs.Rows.{AreDocuments, TellsWritten, Writes, crc_text, head_answer_in, head_line, namespace_text, own_namespace, shape_word};
 
-use crate::texts::{numbers, written};
+use crate::texts::{failing, own_namespace, written};
 use anyhow::Result;
 use archive_blocks::{BlockWriter, Crc, HeadFault, NsHead, read_ns_head};
 use bson_check::{MAX_DOCUMENT_BYTES, check};
-use bson_value::{Bytes, List, NsName, Text};
+use bson_value::{Bytes, List};
 use row_script::{answer, bytes, words};
 use std::alloc::{AllocError, Global};
 use tool_io::{Fault, MemSink};
 
-/// The checksum of bytes.
 #[tactic(auto, unfolding(archive_format::specs::Crc::crc_of))]
+fn sum_text(alloc: Global, bytes: &[u8]) -> Result<String, AllocError>
+    ensures { IfOk result (λ text. string_bytes text ≡ radix_digits 16 false (crc_of bytes.now)) }
+{
+    let mut crc = Crc::new();
+    crc.add(bytes);
+    let sum = crc.sum();
+    format!(in alloc; "{sum:x}")
+}
+
+/// The checksum of bytes.
 pub fn sum(alloc: Global, text: &str) -> Result<String>
     ensures { IfOk result (λ answer. (bytes : List ℕ) × (decode_of text.now ≡ Ok bytes) × (string_bytes answer ≡ radix_digits 16 false (crc_of bytes))) }
 {
-    let mut crc = Crc::new();
-    crc.add(&bytes(alloc, text)?);
-    let sum = crc.sum();
-    Ok(format!(in alloc; "{sum:x}")?)
+    let bytes = bytes(alloc, text)?;
+    Ok(sum_text(alloc, &bytes)?)
 }
 
 fn crc_text(alloc: Global, crc: Option<i64>) -> Result<String, AllocError>
@@ -84,10 +91,7 @@ pub fn head(alloc: Global, text: &str) -> Result<String>
 fn writer(alloc: Global) -> Result<BlockWriter, AllocError>
     ensures { IfOk result (λ writer. writer ≡ begun own_namespace) }
 {
-    let ns = NsName {
-        db: Text::of(alloc, "a")?,
-        coll: Text::of(alloc, "b")?,
-    };
+    let ns = own_namespace(alloc)?;
     Ok(BlockWriter::new(alloc, ns))
 }
 
@@ -102,14 +106,32 @@ fn write(alloc: Global, docs: &List<Bytes>, sink: &mut MemSink) -> Result<Result
     }
 }
 
+fn list_of(alloc: Global, doc: Bytes) -> Result<List<Bytes>, AllocError>
+    ensures { IfOk result (λ docs. docs ≡ doc ∷ []) }
+{
+    let mut docs = List::new(alloc);
+    docs.push(doc)?;
+    Ok(docs)
+}
+
+// The document, or none of an empty text.
 fn documents(alloc: Global, text: &str) -> Result<List<Bytes>>
     ensures { IfOk result (λ docs. AreDocuments text.now docs) }
 {
-    let mut docs = List::new(alloc);
-    if !text.is_empty() {
-        docs.push(Bytes::from_vec(bytes(alloc, text)?))?;
+    if text.is_empty() {
+        return Ok(List::new(alloc));
     }
-    Ok(docs)
+    let bytes = bytes(alloc, text)?;
+    Ok(list_of(alloc, Bytes::from_vec(bytes))?)
+}
+
+// What is written of the documents where these calls of the sink fail.
+fn written_blocks(alloc: Global, docs: &List<Bytes>, fails: &str) -> Result<String>
+    ensures { IfOk result (λ answer. TellsWritten (namespace_text docs.now) (string_bytes answer)) }
+{
+    let mut sink = failing(alloc, fails)?;
+    let answer = write(alloc, docs, &mut sink)?;
+    written(alloc, answer, &sink)
 }
 
 /// A block of the document, or of none, and the end behind it, where these calls of the sink fail.
@@ -117,7 +139,6 @@ pub fn blocks(alloc: Global, text: &str) -> Result<String>
     ensures { IfOk result (λ answer. (docs : List (List ℕ)) × AreDocuments (behind_blank text.now) docs × TellsWritten (namespace_text docs) (string_bytes answer)) }
 {
     let (fails, docs) = words(text)?;
-    let mut sink = MemSink::new(alloc, numbers(alloc, fails)?);
-    let answer = write(alloc, &documents(alloc, docs)?, &mut sink)?;
-    written(alloc, answer, &sink)
+    let docs = documents(alloc, docs)?;
+    written_blocks(alloc, &docs, fails)
 }

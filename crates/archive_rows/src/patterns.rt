@@ -60,6 +60,13 @@ fn pattern(alloc: Global, text: &str) -> Result<Pattern>
     }
 }
 
+fn renamed_from(alloc: Global, from: &Pattern, to: &str, name: &str) -> Result<String>
+    ensures { IfOk result (λ answer. (new : Literals) × (literals_of to.now ≡ Some new) × TellsRenamed from.now new name.now (string_bytes answer)) }
+{
+    let to = pattern(alloc, to)?;
+    renamed_by(alloc, from, &to, name)
+}
+
 /// What two patterns make of a name.
 pub fn renamed(alloc: Global, text: &str) -> Result<String>
     ensures { IfOk result (λ answer. (from : Literals) × (to : Literals) × (literals_of (before_blank text.now) ≡ Some from)
@@ -69,6 +76,5 @@ pub fn renamed(alloc: Global, text: &str) -> Result<String>
     let (from, rest) = words(text)?;
     let (to, name) = words(rest)?;
     let from = pattern(alloc, from)?;
-    let to = pattern(alloc, to)?;
-    renamed_by(alloc, &from, &to, name)
+    renamed_from(alloc, &from, to, name)
 }

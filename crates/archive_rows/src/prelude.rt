@@ -1,12 +1,13 @@
 //! Preludes of the versions 0.0.0, and their documents.
-ghost use Rattle.std.specs.Prelude.{◌≡◌, [], ◌∷◌, ◌++◌, Option, IfOk, OnOk, codes, string_bytes};
+ghost use Rattle.std.specs.Prelude.{◌≡◌, [], ◌∷◌, ◌++◌, Option, Ok, IfOk, OnOk, codes, string_bytes};
 ghost use Rattle.row_script.specs.Rows.{before_blank};
+ghost use Rattle.bson_check.specs.Reading.{document_of};
 ghost use Rattle.archive_format.specs.Shapes.{ShapeFault, header_fault, meta_of};
 ghost use Rattle.archive_format.specs.Written.{prelude_text};
 ghost use Rattle.archive_prelude.specs.Faults.{IsPreludeFault};
-ghost use Rattle.archive_rows.specs.Rows.{Document, TellsWritten, Write, Writes, meta_answer, metas_named, ns_text, own_header, own_namespace, shape_answer};
+ghost use Rattle.archive_rows.specs.Rows.{Document, TellsWritten, Write, Writes, meta_answer, metas_named, ns_text, own_header, own_metadata, own_namespace, prelude_over, shape_answer};
 
-use crate::texts::{numbers, written};
+use crate::texts::{failing, own_namespace, written};
 use anyhow::Result;
 use archive_prelude::{Meta, Prelude, PreludeFault, read_header, read_meta, write};
 use bson_check::MAX_DOCUMENT_BYTES;
@@ -16,34 +17,49 @@ use row_script::{answer, bytes, refused, words};
 use std::alloc::{AllocError, Global};
 use tool_io::{Fault, MemSink};
 
+// The prelude without metadata.
+fn bare(alloc: Global) -> Result<Prelude, AllocError>
+    ensures { IfOk result (λ prelude. prelude ≡ prelude_over []) }
+{
+    let server = Text::of(alloc, "0.0.0")?;
+    let tool = Text::of(alloc, "0.0.0")?;
+    Ok(Prelude {
+        concurrent: 1,
+        server,
+        tool,
+        metas: List::new(alloc),
+    })
+}
+
+// The metadata of `a.b`.
+fn own_metadata(alloc: Global) -> Result<Meta, AllocError>
+    ensures { IfOk result (λ meta. meta ≡ own_metadata) }
+{
+    let ns = own_namespace(alloc)?;
+    let text = Text::of(alloc, "{}")?;
+    Ok(Meta { ns, text })
+}
+
+fn with_metadata(alloc: Global) -> Result<Prelude, AllocError>
+    ensures { IfOk result (λ prelude. prelude ≡ prelude_over (own_metadata ∷ [])) }
+{
+    let mut prelude = bare(alloc)?;
+    let meta = own_metadata(alloc)?;
+    prelude.metas.push(meta)?;
+    Ok(prelude)
+}
+
 fn write_bare(alloc: Global, sink: &mut MemSink) -> Result<Result<(), Fault>>
     ensures { IfOk result (λ answer. Writes answer sink.old.written sink.new.written (prelude_text own_header [])) }
 {
-    let prelude = Prelude {
-        concurrent: 1,
-        server: Text::of(alloc, "0.0.0")?,
-        tool: Text::of(alloc, "0.0.0")?,
-        metas: List::new(alloc),
-    };
+    let prelude = bare(alloc)?;
     Ok(write(alloc, &prelude, sink))
 }
 
 fn write_with_metadata(alloc: Global, sink: &mut MemSink) -> Result<Result<(), Fault>>
     ensures { IfOk result (λ answer. Writes answer sink.old.written sink.new.written (prelude_text own_header (record { ns = own_namespace; text = codes "{}" } ∷ []))) }
 {
-    let ns = NsName {
-        db: Text::of(alloc, "a")?,
-        coll: Text::of(alloc, "b")?,
-    };
-    let text = Text::of(alloc, "{}")?;
-    let mut metas = List::new(alloc);
-    metas.push(Meta { ns, text })?;
-    let prelude = Prelude {
-        concurrent: 1,
-        server: Text::of(alloc, "0.0.0")?,
-        tool: Text::of(alloc, "0.0.0")?,
-        metas,
-    };
+    let prelude = with_metadata(alloc)?;
     Ok(write(alloc, &prelude, sink))
 }
 
@@ -63,9 +79,18 @@ pub fn prelude(alloc: Global, text: &str) -> Result<String>
     ensures { IfOk result (λ answer. TellsWritten (prelude_text own_header (metas_named (before_blank text.now))) (string_bytes answer)) }
 {
     let (metadata, fails) = words(text)?;
-    let mut sink = MemSink::new(alloc, numbers(alloc, fails)?);
+    let mut sink = failing(alloc, fails)?;
     let answer = write_named(alloc, metadata, &mut sink)?;
     written(alloc, answer, &sink)
+}
+
+fn decoded(alloc: Global, bytes: &[u8]) -> Result<Doc>
+    ensures { IfOk result (λ doc. document_of 16793600 200 bytes.now ≡ Ok doc) }
+{
+    match decode(alloc, bytes, MAX_DOCUMENT_BYTES, 200) {
+        Ok(doc) => Ok(doc),
+        Err(_) => refused("no document"),
+    }
 }
 
 // The document that the digits write.
@@ -73,16 +98,14 @@ pub fn prelude(alloc: Global, text: &str) -> Result<String>
 fn document(alloc: Global, text: &str) -> Result<Doc>
     ensures { IfOk result (λ doc. Write text.now doc) }
 {
-    match decode(alloc, &bytes(alloc, text)?, MAX_DOCUMENT_BYTES, 200) {
-        Ok(doc) => Ok(doc),
-        Err(_) => refused("no document"),
-    }
+    let bytes = bytes(alloc, text)?;
+    decoded(alloc, &bytes)
 }
 
 // Why a document has another shape.
-fn fault_text(alloc: Global, fault: PreludeFault) -> Result<String>
-    ensures told { IfOk result (λ answer. (shape : Option ShapeFault) → IsPreludeFault fault shape → string_bytes answer ≡ shape_answer shape) }
-    ensures memory { OnOk result (fault ≡ PreludeFault.NoMemory → ⊥) }
+fn fault_text(alloc: Global, fault: &PreludeFault) -> Result<String>
+    ensures told { IfOk result (λ answer. (shape : Option ShapeFault) → IsPreludeFault fault.now shape → string_bytes answer ≡ shape_answer shape) }
+    ensures memory { OnOk result (fault.now ≡ PreludeFault.NoMemory → ⊥) }
 {
     match fault {
         PreludeFault::MissingField(name) => {
@@ -95,14 +118,21 @@ fn fault_text(alloc: Global, fault: PreludeFault) -> Result<String>
     }
 }
 
+fn header_of(alloc: Global, doc: &Doc) -> Result<String>
+    ensures { IfOk result (λ answer. string_bytes answer ≡ shape_answer (header_fault doc.now)) }
+{
+    match read_header(alloc, doc) {
+        Ok(()) => answer(alloc, "ok"),
+        Err(fault) => fault_text(alloc, &fault),
+    }
+}
+
 /// Whether a document is a header, or its first fault.
 pub fn header(alloc: Global, text: &str) -> Result<String>
     ensures { IfOk result (λ answer. (doc : Document) × Write text.now doc × (string_bytes answer ≡ shape_answer (header_fault doc))) }
 {
-    match read_header(alloc, &document(alloc, text)?) {
-        Ok(()) => answer(alloc, "ok"),
-        Err(fault) => fault_text(alloc, fault),
-    }
+    let doc = document(alloc, text)?;
+    header_of(alloc, &doc)
 }
 
 fn meta_text(alloc: Global, ns: &NsName, text: &Text) -> Result<String>
@@ -111,12 +141,19 @@ fn meta_text(alloc: Global, ns: &NsName, text: &Text) -> Result<String>
     Ok(format!(in alloc; "{}.{} {}", ns.db.as_str(), ns.coll.as_str(), text.as_str())?)
 }
 
+fn metadata_of(alloc: Global, doc: &Doc) -> Result<String>
+    ensures { IfOk result (λ answer. string_bytes answer ≡ meta_answer (meta_of doc.now)) }
+{
+    match read_meta(alloc, doc) {
+        Ok(meta) => meta_text(alloc, &meta.ns, &meta.text),
+        Err(fault) => fault_text(alloc, &fault),
+    }
+}
+
 /// The metadata that a document is, or its first fault.
 pub fn metadata(alloc: Global, text: &str) -> Result<String>
     ensures { IfOk result (λ answer. (doc : Document) × Write text.now doc × (string_bytes answer ≡ meta_answer (meta_of doc))) }
 {
-    match read_meta(alloc, &document(alloc, text)?) {
-        Ok(Meta { ns, text }) => meta_text(alloc, &ns, &text),
-        Err(fault) => fault_text(alloc, fault),
-    }
+    let doc = document(alloc, text)?;
+    metadata_of(alloc, &doc)
 }

@@ -1,5 +1,5 @@
 //! Rings of few entries. A timestamp stands as its ordinal in the second 1.
-ghost use Rattle.std.specs.Prelude.{◌≡◌, ◌↔◌, ◌++◌, ℕ, List, [], Bool, Option, None, Ok, IfOk, OnOk, IsTrue, codes, length, replicate, slice_get, string_bytes};
+ghost use Rattle.std.specs.Prelude.{◌≡◌, ◌↔◌, ◌++◌, ℕ, List, [], Bool, Option, None, Some, Ok, IfOk, OnOk, IsTrue, codes, length, replicate, slice_get, string_bytes};
 ghost use Rattle.std.specs.Fmt.{decimal};
 ghost use Rattle.hex.specs.Hex.{decode_of};
 ghost use Rattle.row_script.specs.Rows.{before_blank, behind_blank};
@@ -40,7 +40,8 @@ fn push(ring: &mut CappedOplog, inc: u32, entry: Bytes) -> Result<Option<Ts>>
 fn zeros(alloc: Global, size: u64) -> Result<Bytes, AllocError>
     ensures { IfOk result (λ bytes. bytes ≡ replicate size 0) }
 {
-    Ok(Bytes::from_vec(vec![in alloc; 0u8; size as usize]?))
+    let zeros = vec![in alloc; 0u8; size as usize]?;
+    Ok(Bytes::from_vec(zeros))
 }
 
 fn trim(ring: &mut CappedOplog)
@@ -59,7 +60,8 @@ fn fill(alloc: Global, ring: &mut CappedOplog, sizes: &[u64]) -> Result<()>
             return refused("too many entries");
         }
         inc += 1;
-        let _ = push(ring, inc, zeros(alloc, *size)?)?;
+        let entry = zeros(alloc, *size)?;
+        let _ = push(ring, inc, entry)?;
         trim(ring);
     }
     Ok(())
@@ -80,7 +82,9 @@ pub fn left(alloc: Global, text: &str) -> Result<String> {
     let (cap, rest) = words(text)?;
     let (limit, sizes) = words(rest)?;
     let limit = limit.parse::<u64>().ok();
-    left_of(alloc, number(cap)?, limit, &numbers(alloc, sizes)?)
+    let cap = number(cap)?;
+    let sizes = numbers(alloc, sizes)?;
+    left_of(alloc, cap, limit, &sizes)
 }
 
 fn stamp_text(alloc: Global, ts: Option<Ts>) -> Result<String>
@@ -111,6 +115,14 @@ fn stamp(text: &str) -> Result<Ts>
     })
 }
 
+fn entry_text(alloc: Global, ts: Ts, bytes: &[u8]) -> Result<String>
+    ensures { IfOk result (λ text. string_bytes text ≡ entry_text (Some (ts, bytes.now))) }
+{
+    let ts = stamp_text(alloc, Some(ts))?;
+    let bytes = digits(alloc, bytes)?;
+    Ok(format!(in alloc; "{ts} {bytes}")?)
+}
+
 /// A ring of one entry.
 #[derive(Drop)]
 pub struct Ring {
@@ -121,9 +133,8 @@ impl Ring {
     pub fn new(alloc: Global) -> Result<Ring>
         ensures { IfOk result (λ r. r.ring ≡ record { entries = []; cap = 1; limit = None }) }
     {
-        Ok(Ring {
-            ring: ring_of(alloc, 1, None)?,
-        })
+        let ring = ring_of(alloc, 1, None)?;
+        Ok(Ring { ring })
     }
 
     /// Pushes an entry, and tells the timestamp of what is handed back.
@@ -134,8 +145,8 @@ impl Ring {
     {
         let (inc, entry) = words(text)?;
         let ts = stamp(inc)?;
-        let entry = Bytes::from_vec(bytes(alloc, entry)?);
-        let handed = push(&mut self.ring, ts.inc, entry)?;
+        let bytes = bytes(alloc, entry)?;
+        let handed = push(&mut self.ring, ts.inc, Bytes::from_vec(bytes))?;
         stamp_text(alloc, handed)
     }
 
@@ -167,11 +178,7 @@ impl Ring {
         ensures { IfOk result (λ answer. string_bytes answer ≡ entry_text (slice_get self.now.ring.entries (number_of text.now))) }
     {
         match self.ring.entry(number(text)?) {
-            Some((ts, bytes)) => {
-                let ts = stamp_text(alloc, Some(ts))?;
-                let bytes = digits(alloc, bytes)?;
-                Ok(format!(in alloc; "{ts} {bytes}")?)
-            }
+            Some((ts, bytes)) => entry_text(alloc, ts, bytes),
             None => answer(alloc, "none"),
         }
     }
