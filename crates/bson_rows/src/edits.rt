@@ -27,6 +27,15 @@ pub fn first_field(alloc: Global, text: &str) -> Result<(CText, Value)>
     Ok(doc.take(0))
 }
 
+/// The value of the first field of the document that the digits write.
+pub fn first_value(alloc: Global, text: &str) -> Result<Value>
+    ensures { IfOk result (λ value. (name : List ℕ) × IsFirst text.now (name, value)) }
+{
+    let (name, value) = first_field(alloc, text)?;
+    drop(name);
+    Ok(value)
+}
+
 // Puts a field in front, whose name isn't there.
 fn add_first(doc: &mut Doc, field: (CText, Value)) -> Result<()>
     ensures { OnOk result (doc.new ≡ field ∷ doc.old) }

@@ -8,7 +8,7 @@ ghost use Rattle.bson_encode.specs.Key.{key_of};
 ghost use Rattle.row_script.specs.Rows.{before_blank, behind_blank};
 ghost use Rattle.bson_rows.specs.Rows.{AreComparedSo, IsFirst, order_word};
 
-use crate::edits::first_field;
+use crate::edits::first_value;
 use crate::texts::order_word;
 use anyhow::Result;
 use bson_encode::{cmp_key, cmp_keys, put_key};
@@ -29,8 +29,8 @@ fn key_behind_ff(alloc: Global, value: &Value) -> Result<String>
 pub fn key(alloc: Global, text: &str) -> Result<String>
     ensures { IfOk result (λ answer. (field : List ℕ × Datum) × IsFirst text.now field × (string_bytes answer ≡ encode_lower (255 ∷ key_of field.1))) }
 {
-    let field = first_field(alloc, text)?;
-    key_behind_ff(alloc, &field.1)
+    let value = first_value(alloc, text)?;
+    key_behind_ff(alloc, &value)
 }
 
 fn key_order(alloc: Global, value: &Value, key: &[u8]) -> Result<String>
@@ -57,8 +57,8 @@ pub fn compared_key(alloc: Global, text: &str) -> Result<String>
         × (decode_of (behind_blank text.now) ≡ Ok key) × (string_bytes answer ≡ order_word (slice_cmp nat_cmp (key_of field.1) key))) }
 {
     let (field, key) = words(text)?;
-    let field = first_field(alloc, field)?;
-    order_to_written(alloc, &field.1, key)
+    let value = first_value(alloc, field)?;
+    order_to_written(alloc, &value, key)
 }
 
 #[tactic(auto, unfolding(crate::specs::Rows::AreComparedSo))]
@@ -73,8 +73,8 @@ fn order_to_field(alloc: Global, first: &Value, text: &str) -> Result<String>
     ensures { IfOk result (λ answer. (second : List ℕ × Datum) × IsFirst text.now second
         × AreComparedSo first.now second.1 (string_bytes answer)) }
 {
-    let second = first_field(alloc, text)?;
-    keys_order(alloc, first, &second.1)
+    let second = first_value(alloc, text)?;
+    keys_order(alloc, first, &second)
 }
 
 /// How the key of a value stands to that of another one.
@@ -83,6 +83,6 @@ pub fn compared_keys(alloc: Global, text: &str) -> Result<String>
         × AreComparedSo first.1 second.1 (string_bytes answer)) }
 {
     let (first, second) = words(text)?;
-    let first = first_field(alloc, first)?;
-    order_to_field(alloc, &first.1, second)
+    let first = first_value(alloc, first)?;
+    order_to_field(alloc, &first, second)
 }
