@@ -1,4 +1,4 @@
-use Rattle.std.proofs.Common.{◌≡◌, ℕ, Bool, List, ◌++◌, is_some, if◌then◌else◌, sym, ap, ◌∙◌, append_assoc}
+use Rattle.std.proofs.Common.{ℕ, Bool, List, ◌++◌, is_some, if◌then◌else◌, sym, ap, ◌∙◌, append_assoc}
 use Rattle.std.specs.Prelude.{codes}
 use Rattle.bson_encode.specs.Key.{key_of}
 use Rattle.coll_state.specs.Changes.{document_at}
