@@ -12,7 +12,7 @@ ghost use Rattle.index_rows.specs.Rows.{Names, Write, WriteDefinition, fault_in,
 
 use crate::texts::{definition, document, namespace, shown, shown_pair};
 use anyhow::Result;
-use bson_value::{Doc, NsName};
+use bson_value::{Doc, NsName, Text};
 use bson_view::Held;
 use coll_state::{COUNT_LIMIT, State};
 use index_build::{CountFault, count_all, count_definitions};
@@ -106,7 +106,8 @@ impl Collections {
     {
         let (name, index) = words(text)?;
         let ns = namespace(alloc, name)?;
-        number_text(alloc, number_of(alloc, &self.state, &ns, index)?)
+        let number = number_of(alloc, &self.state, &ns, index)?;
+        number_text(alloc, number)
     }
 
     /// The first fault of the indexes.
@@ -127,8 +128,8 @@ fn number_text(alloc: Global, number: Option<u64>) -> Result<String>
 }
 
 // An error where the fault is want of memory.
-fn told(fault: &CountFault) -> Result<(), AllocError>
-    ensures { OnOk result ((told : Option Faults) → IsCountFault fault.now told → is_some told ≡ true) }
+fn told(fault: CountFault) -> Result<(), AllocError>
+    ensures { OnOk result ((told : Option Faults) → IsCountFault fault told → is_some told ≡ true) }
 {
     match fault {
         CountFault::NoMemory => Err(AllocError),
@@ -144,7 +145,7 @@ fn number_of(alloc: Global, state: &State, ns: &NsName, index: &str) -> Result<O
     match count_all(alloc, state) {
         Ok(counts) => Ok(counts.get(ns, index)),
         Err(fault) => {
-            told(&fault)?;
+            told(fault)?;
             Ok(None)
         }
     }
@@ -179,24 +180,36 @@ fn fault_text(alloc: Global, fault: &CountFault) -> Result<String>
     }
 }
 
+fn numbers_text(alloc: Global, numbers: &[(Text, Option<u64>)]) -> Result<String> {
+    Ok(format!(in alloc; "{numbers:?}")?)
+}
+
 // The numbers of definitions over documents.
 fn pairs_text(alloc: Global, ns: &NsName, defs: &[Tree], docs: &[Held<'_>]) -> Result<String> {
     match count_definitions(alloc, ns, defs, docs) {
-        Ok(numbers) => Ok(format!(in alloc; "{:?}", numbers.as_slice())?),
-        Err(_) => answer(alloc, "a fault"),
+        Ok(numbers) => numbers_text(alloc, numbers.as_slice()),
+        Err(fault) => {
+            told(fault)?;
+            answer(alloc, "a fault")
+        }
     }
 }
 
-fn pairs_of(alloc: Global, ns: &NsName, def: Tree, doc: &Doc) -> Result<String> {
-    let defs = vec![in alloc; def]?;
+fn pairs_of(alloc: Global, defs: &[Tree], doc: &Doc) -> Result<String> {
+    let ns = namespace(alloc, "s.c")?;
     let docs = vec![in alloc; Held::Built(doc)]?;
-    pairs_text(alloc, ns, &defs, &docs)
+    pairs_text(alloc, &ns, defs, &docs)
+}
+
+fn definitions(alloc: Global, text: &str) -> Result<Vec<Tree>> {
+    let def = definition(alloc, text)?;
+    Ok(vec![in alloc; def]?)
 }
 
 /// The numbers of one definition over one document.
 pub fn pairs(alloc: Global, text: &str) -> Result<String> {
     let (def, json) = words(text)?;
     let doc = document(alloc, json)?;
-    let def = definition(alloc, def)?;
-    pairs_of(alloc, &namespace(alloc, "s.c")?, def, &doc)
+    let defs = definitions(alloc, def)?;
+    pairs_of(alloc, &defs, &doc)
 }

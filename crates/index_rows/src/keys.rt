@@ -1,10 +1,14 @@
 //! Keys of documents, of both kinds of documents that are held.
-ghost use Rattle.std.specs.Prelude.{◌≡◌, ◌↔◌, ℕ, List, Bool, None, false, bytes_eq, codes, IfOk, IsTrue, OnOk, string_bytes};
+ghost use Rattle.std.specs.Prelude.{◌≡◌, ◌↔◌, ◌<◌, ◌^◌, ℕ, List, Bool, Option, None, false, bytes_eq, codes, length, IfOk, IsTrue, OnOk, string_bytes};
 ghost use Rattle.row_script.specs.Rows.{before_blank, behind_blank};
 ghost use Rattle.coll_state.specs.Rows.{Document};
+ghost use Rattle.std.specs.Fmt.{decimal};
+ghost use Rattle.bson_view.specs.Meaning.{document_in};
+ghost use Rattle.index_keys.specs.Branches.{Path as Branch};
+ghost use Rattle.index_keys.specs.Faults.{IsKeyFault};
 ghost use Rattle.index_keys.specs.Keys.{parallel};
 ghost use Rattle.index_keys.specs.Texts.{key_texts};
-ghost use Rattle.index_rows.specs.Rows.{AreBoth, Write, keys_text, plan_over, truth_text};
+ghost use Rattle.index_rows.specs.Rows.{AreBoth, Write, count_text, keys_text, plan_over, truth_text};
 
 use crate::texts::{document, plan};
 use anyhow::Result;
@@ -30,18 +34,51 @@ fn are_same(alloc: Global, a: &Keys, b: &Keys) -> Result<bool, AllocError>
     Ok(true)
 }
 
+// The keys of the document that bytes spell.
+fn spelled_keys(alloc: Global, plan: &Plan, bytes: &[u8]) -> Result<Keys>
+    ensures { IfOk result (λ keys. (length bytes.now < 2 ^ 31) × (keys ≡ key_texts plan.now (document_in bytes.now))) }
+{
+    match View::check(bytes, 16_777_216, 100) {
+        Ok(view) => Ok(keys(alloc, plan, Held::Spelled(view))?),
+        Err(_) => refused("a large document"),
+    }
+}
+
+// The keys of a document from its bytes.
+fn keys_again(alloc: Global, plan: &Plan, doc: &Doc) -> Result<Keys>
+    ensures { IfOk result (λ keys. keys ≡ key_texts plan.now doc.now) }
+{
+    let bytes = encode(alloc, doc)?;
+    one_document();
+    spelled_keys(alloc, plan, bytes.as_slice())
+}
+
 // Whether the spelled document has these keys.
 fn has_keys(alloc: Global, plan: &Plan, doc: &Doc, built: &Keys) -> Result<bool>
     ensures { IfOk result (λ is_so. IsTrue is_so ↔ (built.now ≡ key_texts plan.now doc.now)) }
 {
-    let bytes = encode(alloc, doc)?;
-    one_document();
-    match View::check(bytes.as_slice(), 16_777_216, 100) {
-        Ok(view) => {
-            let spelled = keys(alloc, plan, Held::Spelled(view))?;
-            Ok(are_same(alloc, built, &spelled)?)
+    let spelled = keys_again(alloc, plan, doc)?;
+    Ok(are_same(alloc, built, &spelled)?)
+}
+
+// How many keys there are, where the spelled document has these too.
+fn count_text(alloc: Global, plan: &Plan, doc: &Doc, built: &Keys) -> Result<String>
+    ensures { IfOk result (λ answer. built.now ≡ key_texts plan.now doc.now → string_bytes answer ≡ decimal (length built.now)) }
+{
+    if !has_keys(alloc, plan, doc, built)? {
+        return answer(alloc, "other keys");
+    }
+    Ok(format!(in alloc; "{}", built.len())?)
+}
+
+fn fault_text(alloc: Global, fault: &KeyFault) -> Result<String>
+    ensures { IfOk result (λ answer. (two : Option (Branch × Branch)) (count : ℕ) → IsKeyFault fault.now two → string_bytes answer ≡ count_text two count) }
+{
+    match fault {
+        KeyFault::ParallelArrays { first, second } => {
+            Ok(format!(in alloc; "parallel {} {}", first.as_str(), second.as_str())?)
         }
-        Err(_) => refused("a large document"),
+        KeyFault::NoMemory => Err(AllocError)?,
     }
 }
 
@@ -50,13 +87,16 @@ fn keys_text(alloc: Global, plan: &Plan, doc: &Doc) -> Result<String>
     ensures { IfOk result (λ answer. string_bytes answer ≡ keys_text plan.now doc.now) }
 {
     match keys(alloc, plan, Held::Built(doc)) {
-        Ok(built) if !has_keys(alloc, plan, doc, &built)? => answer(alloc, "other keys"),
-        Ok(built) => Ok(format!(in alloc; "{}", built.len())?),
-        Err(KeyFault::ParallelArrays { first, second }) => {
-            Ok(format!(in alloc; "parallel {} {}", first.as_str(), second.as_str())?)
-        }
-        Err(KeyFault::NoMemory) => Err(AllocError)?,
+        Ok(built) => count_text(alloc, plan, doc, &built),
+        Err(fault) => fault_text(alloc, &fault),
     }
+}
+
+fn told_under(alloc: Global, plan: &Plan, json: &str) -> Result<String>
+    ensures { IfOk result (λ answer. (doc : Document) × Write json.now doc × (string_bytes answer ≡ keys_text plan.now doc)) }
+{
+    let doc = document(alloc, json)?;
+    keys_text(alloc, plan, &doc)
 }
 
 /// The keys of a document under a plan of these fields, of all documents or sparse.
@@ -67,14 +107,30 @@ pub fn told(alloc: Global, text: &str) -> Result<String>
     let (fields, rest) = words(text)?;
     let (kind, json) = words(rest)?;
     let plan = plan(alloc, fields, kind == "sparse", false)?;
-    let doc = document(alloc, json)?;
-    keys_text(alloc, &plan, &doc)
+    told_under(alloc, &plan, json)
 }
 
 fn keys_of(alloc: Global, plan: &Plan, json: &str) -> Result<Keys>
     ensures { IfOk result (λ keys. (doc : Document) × Write json.now doc × (parallel plan.now doc ≡ None) × (keys ≡ key_texts plan.now doc)) }
 {
-    Ok(keys(alloc, plan, Held::Built(&document(alloc, json)?))?)
+    let doc = document(alloc, json)?;
+    Ok(keys(alloc, plan, Held::Built(&doc))?)
+}
+
+// Whether a document has these keys.
+fn are_keys(alloc: Global, plan: &Plan, json: &str, built: &Keys) -> Result<bool>
+    ensures { IfOk result (λ is_so. (doc : Document) × Write json.now doc × (IsTrue is_so ↔ (built.now ≡ key_texts plan.now doc))) }
+{
+    let other = keys_of(alloc, plan, json)?;
+    Ok(are_same(alloc, built, &other)?)
+}
+
+fn compared_under(alloc: Global, plan: &Plan, first: &str, second: &str) -> Result<bool>
+    ensures { IfOk result (λ is_so. (a : Document) × (b : Document) × Write first.now a × Write second.now b
+        × (IsTrue is_so ↔ (key_texts plan.now a ≡ key_texts plan.now b))) }
+{
+    let first = keys_of(alloc, plan, first)?;
+    are_keys(alloc, plan, second, &first)
 }
 
 // The texts round the mark, or a text twice where it has none.
@@ -96,7 +152,6 @@ pub fn compared(alloc: Global, text: &str) -> Result<String>
 {
     let (first, second) = both(text);
     let plan = plan(alloc, "k", false, false)?;
-    let first = keys_of(alloc, &plan, first)?;
-    let second = keys_of(alloc, &plan, second)?;
-    truth(alloc, are_same(alloc, &first, &second)?)
+    let are_same = compared_under(alloc, &plan, first, second)?;
+    truth(alloc, are_same)
 }

@@ -1,5 +1,9 @@
 //! Documents, definitions, plans and namespaces from texts, and values as texts.
-ghost use Rattle.std.specs.Prelude.{◌≡◌, All, None, IfOk, OnOk, map as each, string_bytes};
+ghost use Rattle.std.specs.Prelude.{◌≡◌, [], ◌∷◌, ◌++◌, All, None, Some, Ok, IfOk, OnOk, map as each, string_bytes};
+ghost use Rattle.bson_value.specs.declared.value.Value.TheVariants.{Object};
+ghost use Rattle.extjson.specs.Values.{value_of};
+ghost use Rattle.index_keys.specs.Definition.{normal};
+ghost use Rattle.json_text.specs.Print.{text_of};
 ghost use Rattle.doc_path.specs.Paths.{parts_of, path_fault};
 ghost use Rattle.index_rows.specs.Rows.{Names, Write, WriteDefinition, fields_of, pair_text, plan_over, value_text};
 
@@ -23,14 +27,30 @@ pub fn namespace(alloc: Global, text: &str) -> Result<NsName>
     }
 }
 
+fn document_of(alloc: Global, tree: &Tree) -> Result<Doc>
+    ensures { IfOk result (λ doc. value_of tree.now ≡ Ok (Object doc)) }
+{
+    match value_of(alloc, tree)? {
+        Value::Object(doc) => Ok(doc),
+        _ => refused("no document"),
+    }
+}
+
 /// The document that the text writes.
 #[tactic(auto, unfolding(crate::specs::Rows::Write))]
 pub fn document(alloc: Global, text: &str) -> Result<Doc>
     ensures { IfOk result (λ doc. Write text.now doc) }
 {
-    match value_of(alloc, &parse(alloc, text)?)? {
-        Value::Object(doc) => Ok(doc),
-        _ => refused("no document"),
+    let tree = parse(alloc, text)?;
+    document_of(alloc, &tree)
+}
+
+fn normal_of(alloc: Global, tree: &Tree) -> Result<Tree>
+    ensures { IfOk result (λ def. normal tree.now ≡ Some def) }
+{
+    match normal(alloc, tree)? {
+        Some(def) => Ok(def),
+        None => refused("no definition"),
     }
 }
 
@@ -39,10 +59,16 @@ pub fn document(alloc: Global, text: &str) -> Result<Doc>
 pub fn definition(alloc: Global, text: &str) -> Result<Tree>
     ensures { IfOk result (λ def. WriteDefinition text.now def) }
 {
-    match normal(alloc, &parse(alloc, text)?)? {
-        Some(def) => Ok(def),
-        None => refused("no definition"),
-    }
+    let tree = parse(alloc, text)?;
+    normal_of(alloc, &tree)
+}
+
+/// The text of a tree.
+pub fn text_of(alloc: Global, tree: &Tree) -> Result<String>
+    ensures { IfOk result (λ text. string_bytes text ≡ text_of tree.now) }
+{
+    let text = print(alloc, tree)?;
+    Ok(text.into_string()?)
 }
 
 /// The value as JSON.
@@ -50,7 +76,8 @@ pub fn definition(alloc: Global, text: &str) -> Result<Tree>
 pub fn shown(alloc: Global, value: &Value) -> Result<String>
     ensures { IfOk result (λ text. string_bytes text ≡ value_text value.now) }
 {
-    Ok(print(alloc, &tree_of(alloc, value)?)?.into_string()?)
+    let tree = tree_of(alloc, value)?;
+    text_of(alloc, &tree)
 }
 
 /// Two values as JSON.
@@ -62,6 +89,15 @@ pub fn shown_pair(alloc: Global, first: &Value, second: &Value) -> Result<String
     Ok(format!(in alloc; "{first} {second}")?)
 }
 
+fn push_path(alloc: Global, paths: &mut List<Path>, field: &str) -> Result<()>
+    ensures ok { OnOk result (paths.new ≡ paths.old ++ parts_of field.now ∷ []) }
+    ensures faultless { OnOk result (path_fault field.now ≡ None) }
+{
+    let path = Path::read(alloc, field)?;
+    paths.push(path)?;
+    Ok(())
+}
+
 // The paths of fields with commas between them.
 fn paths(alloc: Global, fields: &str) -> Result<List<Path>>
     ensures paths { IfOk result (λ paths. paths ≡ each parts_of (fields_of fields.now)) }
@@ -69,7 +105,7 @@ fn paths(alloc: Global, fields: &str) -> Result<List<Path>>
 {
     let mut paths = List::new(alloc);
     for field in fields.split(',') {
-        paths.push(Path::read(alloc, field)?)?;
+        push_path(alloc, &mut paths, field)?;
     }
     Ok(paths)
 }
@@ -79,8 +115,9 @@ pub fn plan(alloc: Global, fields: &str, sparse: bool, unique: bool) -> Result<P
     ensures plan { IfOk result (λ plan. plan ≡ plan_over fields.now sparse unique) }
     ensures faultless { OnOk result (All (λ field. path_fault field ≡ None) (fields_of fields.now)) }
 {
+    let paths = paths(alloc, fields)?;
     Ok(Plan {
-        paths: paths(alloc, fields)?,
+        paths,
         sparse,
         unique,
     })

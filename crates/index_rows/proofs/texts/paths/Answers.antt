@@ -10,8 +10,8 @@ pub loop-field-preserved : goal.loop-field-preserved
 loop-field-preserved c = record {
   next = tt;
   ends = tt;
-  read = rw (map-append, map-append) (c.in_ok-push.ensures.ok ∙ (λ i. c.loop-field.invariant.read i ++ (c.in_ok-read.ensures.ok i ∷ [])));
-  faultless = rw map-append (All-push (λ field. path_fault field ≡ None) _ _ c.loop-field.invariant.faultless c.in_ok-read.ensures.faultless);
+  read = rw (map-append, map-append) (c.in_ok-push_path.ensures.ok ∙ ap (λ paths. paths ++ (parts_of c.in-Some.field.now ∷ [])) c.loop-field.invariant.read);
+  faultless = rw map-append (All-push (λ field. path_fault field ≡ None) _ _ c.loop-field.invariant.faultless c.in_ok-push_path.ensures.faultless);
 }
 
 pub returns-clause-paths : goal.returns-clause-paths
