@@ -116,7 +116,11 @@ impl Collections {
     {
         match count_all(alloc, &self.state) {
             Ok(_) => answer(alloc, "none"),
-            Err(fault) => fault_text(alloc, &fault),
+            Err(fault) => {
+                let text = fault_text(alloc, &fault);
+                drop(fault);
+                text
+            }
         }
     }
 }
@@ -127,15 +131,23 @@ fn number_text(alloc: Global, number: Option<u64>) -> Result<String>
     Ok(format!(in alloc; "{number:?}")?)
 }
 
-// An error where the fault is want of memory.
-fn told(fault: CountFault) -> Result<(), AllocError>
-    ensures { OnOk result ((told : Option Faults) → IsCountFault fault told → is_some told ≡ true) }
+fn of_memory(fault: &CountFault) -> Result<(), AllocError>
+    ensures { OnOk result ((told : Option Faults) → IsCountFault fault.now told → is_some told ≡ true) }
 {
     match fault {
         CountFault::NoMemory => Err(AllocError),
         CountFault::Parallel { .. } => Ok(()),
         CountFault::Duplicate { .. } => Ok(()),
     }
+}
+
+// An error where the fault is want of memory.
+fn told(fault: CountFault) -> Result<(), AllocError>
+    ensures { OnOk result ((told : Option Faults) → IsCountFault fault told → is_some told ≡ true) }
+{
+    let told = of_memory(&fault);
+    drop(fault);
+    told
 }
 
 // The number of an index, where the indexes have no fault.

@@ -49,7 +49,11 @@ fn answer_text(alloc: Global, answer: Result<(), IndexFault>) -> Result<String>
 {
     match answer {
         Ok(()) => Ok(String::from_str(alloc, "ok")?),
-        Err(fault) => fault_text(alloc, &fault),
+        Err(fault) => {
+            let text = fault_text(alloc, &fault);
+            drop(fault);
+            text
+        }
     }
 }
 

@@ -9,4 +9,4 @@ pub returns-in-Ok : goal.returns-in-Ok
 returns-in-Ok c = IfOk-weaker c.answer.result _ _ (λ answer e. e ∙ no_fault c.args.self.now.state c.in-Ok.ensures.faultless) c.answer.ensures
 
 pub returns : goal.returns
-returns c = IfOk-weaker c.fault_text.result _ _ (λ answer e. e (fault (state_of c.args.self.now.state)) c.in-Err.ensures.fault ∙ is_fault c.args.self.now.state) c.fault_text.ensures
+returns c = IfOk-weaker c.fault_text-text.result _ _ (λ answer e. e (fault (state_of c.args.self.now.state)) c.in-Err.ensures.fault ∙ is_fault c.args.self.now.state) c.fault_text-text.ensures
