@@ -1,7 +1,8 @@
 -- The documents that rows write, and the texts of what is answered.
-use Rattle.std.specs.Prelude.{◌≡◌, ◌++◌, ℕ, List, Ok, codes, if◌then◌else◌}
+use Rattle.std.specs.Prelude.{◌≡◌, ◌++◌, ℕ, List, Some, Ok, codes, if◌then◌else◌}
 use Rattle.std.specs.Fmt.{decimal}
 use Rattle.std.specs.List.{flat_map}
+use Rattle.containers.specs.Entries.{lookup}
 use Rattle.json_tree.specs.declared.tree.Tree.{Tree}
 use Rattle.json_text.specs.Print.{text_of}
 use Rattle.json_text.specs.Reading.{tree_of_text}
@@ -19,6 +20,8 @@ use Rattle.doc_path.specs.declared.touches.Touch.TheVariants.{Set, Unset, Resize
 use Rattle.entry_model.specs.declared.entry.Action.{Action, out-Action}
 use Rattle.entry_model.specs.declared.entry.Action.TheOpen.{Action-F}
 use Rattle.entry_model.specs.declared.entry.Entry.{Entry}
+use Rattle.update_model.specs.declared.updated.Updated.{Updated}
+use Rattle.update_action.specs.Recorded.{action_of}
 use Rattle.update_model.specs.declared.fault.OpsFault.{OpsFault}
 use Rattle.update_model.specs.declared.fault.OpsFault.TheVariants as ops_faults
 use Rattle.update_model.specs.declared.fault.UpdateFault.{UpdateFault}
@@ -85,6 +88,10 @@ action_text_at (Action-F.Other name) = codes "other \"" ++ name ++ codes "\""
 
 abbrev pub action_text : Action → List ℕ
 action_text a = action_text_at (out-Action a)
+
+-- an action records an update of the document that has an `_id`
+abbrev pub Records : Form → Updated → Action → Type 0
+Records form u action = (id : Value) × (lookup (codes "_id") u.doc ≡ Some id) × (action ≡ action_of form id u.doc u.touches)
 
 -- an entry, of a group without its items
 abbrev pub item_text : Entry → List ℕ

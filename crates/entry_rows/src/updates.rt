@@ -1,7 +1,9 @@
 //! Operators, updates by them, and the actions that record updates.
-ghost use Rattle.std.specs.Prelude.{◌≡◌, ◌++◌, IfOk, string_bytes};
+ghost use Rattle.std.specs.Prelude.{◌≡◌, ◌++◌, None, IfOk, string_bytes};
 ghost use Rattle.std.specs.Fmt.{decimal};
-ghost use Rattle.entry_rows.specs.Rows.{action_text, document_json, touches_text};
+ghost use Rattle.entry_model.specs.declared.entry.Action.{Action as Actions};
+ghost use Rattle.update_model.specs.Reading.{operators, ops_fault};
+ghost use Rattle.entry_rows.specs.Rows.{Document, Records, Write, action_text, document_json, touches_text};
 
 use crate::faults::{ops_fault, update_fault};
 use crate::shown::{put_action, put_touches};
@@ -39,7 +41,9 @@ fn updated_text(alloc: Global, updated: &Updated) -> Result<String>
     Ok(text)
 }
 
-fn action_of(alloc: Global, form: Form, updated: &Updated) -> Result<Action> {
+fn action_of(alloc: Global, form: Form, updated: &Updated) -> Result<Action>
+    ensures { IfOk result (λ action. Records form updated.now action) }
+{
     let Some(id) = updated.doc.get("_id") else {
         return refused("no _id");
     };
@@ -57,7 +61,9 @@ fn action_text(alloc: Global, action: &Action) -> Result<String>
     Ok(text)
 }
 
-fn recorded_text(alloc: Global, form: Form, updated: &Updated) -> Result<String> {
+fn recorded_text(alloc: Global, form: Form, updated: &Updated) -> Result<String>
+    ensures { IfOk result (λ answer. (action : Actions) × Records form updated.now action × (string_bytes answer ≡ action_text action)) }
+{
     let action = action_of(alloc, form, updated)?;
     let text = action_text(alloc, &action);
     drop(action);
@@ -90,7 +96,9 @@ fn shown_or_refusal(alloc: Global, asked: Asked, doc: &Doc, ops: &Ops) -> Result
 }
 
 // The operators that the text writes.
-fn written_ops(alloc: Global, json: &str) -> Result<Ops> {
+fn written_ops(alloc: Global, json: &str) -> Result<Ops>
+    ensures { IfOk result (λ ops. (doc : Document) × Write json.now doc × (ops ≡ operators doc) × (ops_fault doc ≡ None)) }
+{
     let doc = document(alloc, json)?;
     match Ops::read(alloc, &doc) {
         Ok(ops) => Ok(ops),
