@@ -1,16 +1,16 @@
 -- The tree of a well-formed value is well-formed.
-use Rattle.std.proofs.Common.{◌≡◌, ℕ, ◌<◌, ◌^◌, Bool as Truth, true, false, List, [], ◌∷◌, map, refl, sym, ap, ◌∙◌, subst, arith, inl, inr}
-use Rattle.std.specs.Prelude.{ℤ, FitsSigned, codes}
+use Rattle.std.proofs.Common.{◌≡◌, ℕ, ◌<◌, ◌^◌, Bool as Truth, true, false, List, [], ◌∷◌, map, refl, sym, subst, arith}
+use Rattle.std.specs.Prelude.{ℤ, FitsSigned}
 use Rattle.std.specs.Int.{w32, w64}
 use Rattle.std.specs.Int.Signed.{mag}
-use Rattle.std.specs.Fmt.{signed_decimal, decimal}
+use Rattle.std.specs.Fmt.{signed_decimal}
 use Rattle.std.specs.List.{AllByRecursion}
 use Rattle.std.specs.Str.{is_utf8, bytes_eq}
 use Rattle.std.proofs.lemmas.Fmt.{IsAscii-signed}
 use Rattle.bson_value.specs.declared.value.Value.{Value, Value-F, roll-Value, map-Value, fold-roll-Value, ind-Value}
 use Rattle.bson_value.specs.WellFormed.{IsName, IsWellFormedLevel, IsWellFormed}
 use Rattle.bson_value.specs.WellFormed as values
-use Rattle.containers.specs.Entries.{AreDistinct, names_of}
+use Rattle.containers.specs.Entries.{AreDistinct}
 use Rattle.json_tree.specs.declared.tree.Tree.{Tree}
 use Rattle.json_tree.specs.declared.tree.Tree.TheVariants as trees
 use Rattle.json_tree.specs.WellFormed.{AreNames, AreWellFormedItems, AreWellFormedFields}

@@ -1,11 +1,8 @@
 -- Pieces that were written one after the other.
-use Rattle.std.proofs.Common.{ℕ, ◌+◌, List, [], ◌++◌, length, take, refl, sym, subst, ◌∙◌, arith, inl, inr}
+use Rattle.std.proofs.Common.{ℕ, ◌+◌, List, [], ◌++◌}
 use Rattle.std.specs.Prelude.{Option, Result, Ok, Err, OnOk, OnErr}
 use Rattle.std.specs.Io.KnownBytes.{Appends}
 use Rattle.std.proofs.KnownBytes.{Appends-trans, Appends-nil}
-use Rattle.std.proofs.lemmas.Bool.{cases_lt}
-use Rattle.std.proofs.lemmas.List.{take-append-le, take_all, take_at}
-use Rattle.std.proofs.Math.Seq.{take-append-add}
 use Rattle.tool_io.specs.Causes.{AppendsFront}
 use Rattle.tool_io.proofs.Writes.{front_next, front_first}
 

@@ -10,7 +10,6 @@ use Rattle.state_model.proofs.Keys.{ns_is, ns_turn, ns_anti}
 use Rattle.state_model.proofs.Maps.{ns_remove_same}
 use Rattle.coll_state.specs.Rows.{Document, Table, Rows}
 use Rattle.coll_state.specs.Changes.{Tables, on_found, on_there, put, create, drop_db, drop_ns, rename, renamed_in, with_incarnation, add_index, drop_index}
-use Rattle.index_build.specs.Owned.{Holding}
 use Rattle.kept_indexes.specs.Kept.{KeptCollections, kept_at, AreKept, AreElsewhere}
 use Rattle.store_core.specs.Databases.{AreAmong}
 use Rattle.kept_indexes.proofs.Moving.{names_differ, names_differ_removed, put_elsewhere}

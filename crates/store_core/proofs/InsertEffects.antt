@@ -15,7 +15,7 @@ use Rattle.json_tree.specs.declared.tree.Tree.{Tree}
 use Rattle.state_model.specs.Keys.{Key, key_cmp, same_ns}
 use Rattle.state_model.specs.States.{no_options}
 use Rattle.state_model.proofs.Maps.{ns_at_insert}
-use Rattle.coll_state.specs.Rows.{Document as Fields, Rows, Table, key_in, id_of}
+use Rattle.coll_state.specs.Rows.{Document as Fields, Rows, key_in, id_of}
 use Rattle.coll_state.specs.Changes.{put, put_under, create, fresh_table}
 use Rattle.copy_model.specs.Writes as writes
 use Rattle.schedule_model.specs.declared.command.Command.{Command}

@@ -1,6 +1,6 @@
 -- Commands that are made one after the other.
 use Rattle.std.proofs.Common.{◌≡◌, ℕ, ◌+◌, ◌<◌, ◌≤◌, List, [], ◌∷◌, ◌++◌, length, length-append, append_assoc, append-nil, drop, get_or, Bool, true, false, cond, refl, sym, ap, ◌∙◌, subst, arith, Option, Some, None, Result, Ok, Err}
-use Rattle.std.specs.Prelude.{IfOk, map as each, is_some}
+use Rattle.std.specs.Prelude.{map as each, is_some}
 use Rattle.std.specs.FinMap as map
 use Rattle.std.proofs.lemmas.List.{drop_more, drop_all, map-append}
 use Rattle.bson_value.specs.declared.namespace.NsName.{NsName}
