@@ -1,5 +1,5 @@
 //! Several changes at once.
-ghost use Rattle.std.specs.Prelude.{◌≡◌, [], ◌∷◌, true, IsTrue, IfOk, OnOk, None, Some};
+ghost use Rattle.std.specs.Prelude.{◌≡◌, ◌↔◌, [], ◌∷◌, true, IsTrue, IfOk, OnOk, None, Some};
 ghost use Rattle.std.specs.FinMap as map;
 ghost use Rattle.coll_state.specs.ChangeAll.{HasId, change_all};
 ghost use Rattle.coll_state.specs.Rows.{Document};
@@ -14,7 +14,7 @@ use std::alloc::{AllocError, Global};
 
 // Whether a document has the `_id` that is named.
 fn is_own(change: &Change) -> bool
-    ensures { IsTrue result → HasId change.now.id change.now.doc }
+    ensures { IsTrue result ↔ HasId change.now.id change.now.doc }
 {
     match &change.doc {
         Some(doc) => match doc.get("_id") {
@@ -29,6 +29,7 @@ fn is_own(change: &Change) -> bool
 fn is_possible(state: &State, change: &Change) -> bool
     ensures own { IsTrue result → HasId change.now.id change.now.doc }
     ensures there { IsTrue result → map.contains_key state.now.tables change.now.ns ≡ true }
+    ensures only { HasId change.now.id change.now.doc → map.contains_key state.now.tables change.now.ns ≡ true → IsTrue result }
 {
     is_own(change) && state.has(&change.ns)
 }
