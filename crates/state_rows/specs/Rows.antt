@@ -1,5 +1,5 @@
 -- What rows write, and what they show of collections.
-use Rattle.std.specs.Prelude.{◌≡◌, ◌++◌, ℕ, List, Bool, Option, None, Some, Ok, codes, flat_map, is_some, if◌then◌else◌}
+use Rattle.std.specs.Prelude.{◌≡◌, ◌++◌, ◌==◌, ℕ, List, Bool, Option, None, Some, Ok, codes, flat_map, is_some, if◌then◌else◌}
 use Rattle.std.specs.FinMap as map
 use Rattle.json_tree.specs.declared.tree.Tree.{Tree}
 use Rattle.json_text.specs.Print.{text_of}
@@ -35,6 +35,12 @@ kind_text (Some doc) = if is_short doc then codes "spelled" else codes "built"
 -- how a document is held, and whether there is a copy of it
 abbrev pub held_text : Option Document → List ℕ
 held_text doc = kind_text doc ++ codes " " ++ (if is_some doc then codes "true" else codes "false")
+
+-- how an incarnation stands to the one that was asked for before
+abbrev pub incarnation_text : Option ℕ → Option ℕ → List ℕ
+incarnation_text before None = codes "none"
+incarnation_text None (Some n) = codes "another"
+incarnation_text (Some m) (Some n) = if m == n then codes "as before" else codes "another"
 
 abbrev pub definition_text : Tree → List ℕ
 definition_text def = codes " " ++ text_of def

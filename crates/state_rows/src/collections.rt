@@ -13,7 +13,7 @@ ghost use Rattle.coll_state.specs.ChangeAll.{change_all};
 ghost use Rattle.coll_state.specs.Changes.{no_rows, put, remove, create, drop_db, drop_ns, rename, add_index, drop_index, document_at, has_index};
 ghost use Rattle.coll_state.specs.Kept.{shown, shown_in};
 ghost use Rattle.coll_state.specs.Rows.{Document};
-ghost use Rattle.state_rows.specs.Rows.{Names, Write, WriteValue, collection_text, definition_text, held_text, kind_text, truth_text};
+ghost use Rattle.state_rows.specs.Rows.{Names, Write, WriteValue, collection_text, definition_text, held_text, incarnation_text, kind_text, truth_text};
 
 use crate::changes;
 use crate::texts::{document, levels, namespace, value};
@@ -190,6 +190,19 @@ fn incarnation_of(state: &State, alloc: Global, name: &str) -> Result<Option<u12
     Ok(state.incarnation(&ns))
 }
 
+// How an incarnation stands to the one that was asked for before.
+fn incarnation_text(before: Option<u128>, incarnation: Option<u128>) -> &'static str
+    ensures { result.now ≡ incarnation_text before incarnation }
+{
+    let Some(incarnation) = incarnation else {
+        return "none";
+    };
+    match before {
+        Some(before) if before == incarnation => "as before",
+        _ => "another",
+    }
+}
+
 fn put_name(names: &mut String, ns: &NsName) -> Result<(), AllocError>
     ensures { OnOk result (string_bytes names.new ≡ string_bytes names.old ++ ns.now.db ++ codes "." ++ ns.now.coll ++ codes ";") }
 {
@@ -330,17 +343,14 @@ impl Collections {
     /// Whether there is an incarnation, and it is the one that was asked for last.
     pub fn incarnation(&mut self, alloc: Global, name: &str) -> Result<String>
         ensures state { self.new.state ≡ self.old.state }
-        ensures incarnation { OnOk result ((ns : Name) × Names name.now ns
-            × (self.new.incarnation ≡ option_map (λ t. t.incarnation) (map.get self.old.state.tables ns))) }
+        ensures incarnation { IfOk result (λ answer. (ns : Name) × Names name.now ns
+            × (self.new.incarnation ≡ option_map (λ t. t.incarnation) (map.get self.old.state.tables ns))
+            × (string_bytes answer ≡ incarnation_text self.old.incarnation self.new.incarnation)) }
     {
         let incarnation = incarnation_of(&self.state, alloc, name)?;
-        let is_same = incarnation == self.incarnation;
+        let text = incarnation_text(self.incarnation, incarnation);
         self.incarnation = incarnation;
-        match incarnation {
-            Some(_) if is_same => answer(alloc, "as before"),
-            Some(_) => answer(alloc, "another"),
-            None => answer(alloc, "none"),
-        }
+        answer(alloc, text)
     }
 
     /// The names of the collections.
