@@ -18,7 +18,7 @@ module _ {T : Type 0} (ord : T → Ordering) where
   less_if Greater e = cc
 
   -- behind an element that isn't below none is
-  above_ends : (xs : List T) → AllAbove ord xs → ends_below ord xs ≡ false
+  pub above_ends : (xs : List T) → AllAbove ord xs → ends_below ord xs ≡ false
   above_ends [] a = refl
   above_ends (x ∷ []) a = rw a.0 refl
   above_ends (x ∷ (y ∷ ys)) a = above_ends (y ∷ ys) a.1

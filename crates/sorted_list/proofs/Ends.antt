@@ -1,14 +1,14 @@
 -- The chunk to which a binary search over the last elements leads.
-use Rattle.std.proofs.Common.{◌≡◌, ℕ, zero, suc, ◌-◌, ◌<◌, ◌≤◌, List, [], ◌∷◌, length, Bool, true, false, refl, sym, ap, ◌∙◌, arith, Option, Some, Ok, Err}
-use Rattle.std.specs.Prelude.{slice_index_or, slice_get}
+use Rattle.std.proofs.Common.{◌≡◌, ℕ, zero, suc, ◌-◌, ◌<◌, ◌≤◌, List, [], ◌∷◌, length, Bool, true, false, refl, sym, ap, ◌∙◌, subst, arith, Option, None, Some, Ok, Err}
+use Rattle.std.specs.Prelude.{slice_index_or, slice_get, if◌then◌else◌}
 use Rattle.std.specs.Fn.{AlwaysReturns, Called, Mut}
 use Rattle.std.specs.List.Sorted.{IsSearchInRange, IsBinarySearchResult, IsNonDecreasingBy}
 use Rattle.std.specs.Ordering.{is_lt, ordering_index}
 use Rattle.std.specs.declared.cmp.Ordering.{Ordering}
 use Rattle.std.specs.declared.cmp.Ordering.TheVariants.{Less, Equal, Greater}
-use Rattle.sorted_list.specs.Order.{IsOrdered}
+use Rattle.sorted_list.specs.Order.{Behind, IsOrdered, IsGap}
 use Rattle.sorted_list.specs.Chunks.{joined, AreRoomy, last_of, side, is_below, ends_below, seat}
-use Rattle.sorted_list.proofs.Chunks.{AllEndAbove, EndInOrder, end_in_order}
+use Rattle.sorted_list.proofs.Chunks.{AllEndAbove, EndInOrder, end_in_order, above_ends}
 
 pub last_is : {T : Type 0} (xs : List T) → slice_get xs (length xs - 1) ≡ last_of xs
 last_is [] = refl
@@ -68,6 +68,59 @@ module _ {T : Type 0} (ord : T → Ordering) where
 
   pub seat_ok : (cs : List (List T)) (at : ℕ) → IsBinarySearchResult by_end cs (Ok at) → ⊥
   seat_ok cs at is = side_not_equal (ends_below ord (slice_index_or cs at [])) (is [])
+
+  not_both : (b : Bool) → b ≡ false → b ≡ true → ⊥
+  not_both b f t = cc
+
+  last_above : (cs : List (List T)) (c : List T) → AllEndAbove ord cs → last_of cs ≡ Some c → ends_below ord c ≡ false
+  last_above [] c a e = cc
+  last_above (d ∷ []) c a e = subst (λ (o : Option (List T)). ends_below ord (chunk_in o) ≡ false) e a.0
+    where
+      chunk_in : Option (List T) → List T
+      chunk_in None = []
+      chunk_in (Some x) = x
+  last_above (d ∷ (b ∷ bs)) c a e = last_above (b ∷ bs) c a.1 e
+
+  all_end : (cs : List (List T)) (c : List T) → EndInOrder ord cs → last_of cs ≡ Some c → ends_below ord c ≡ true → length cs ≡ seat ord cs
+  all_end [] c o e b = cc
+  all_end (d ∷ []) c o e b = first (ends_below ord d) (λ f. not_both (ends_below ord c) (last_above (d ∷ []) c (f, tt) e) b)
+    where
+      first : (w : Bool) → (w ≡ false → ⊥) → length (d ∷ []) ≡ (if w then 1 else 0)
+      first true n = refl
+      first false n = absurd (n refl)
+  all_end (d ∷ (x ∷ xs)) c o e b = first (ends_below ord d) (λ f. not_both (ends_below ord c) (last_above (x ∷ xs) c (o.0 f) e) b) (all_end (x ∷ xs) c o.1 e b)
+    where
+      first : (w : Bool) → (w ≡ false → ⊥) → length (x ∷ xs) ≡ seat ord (x ∷ xs) → suc (length (x ∷ xs)) ≡ (if w then suc (seat ord (x ∷ xs)) else 0)
+      first true n h = ap suc h
+      first false n h = absurd (n refl)
+
+  -- where the last chunk ends below what is sought, each does
+  pub seat_end : (cs : List (List T)) (c : List T) → AreRoomy cs → IsOrdered ord (joined cs) → Some c ≡ slice_get cs (length cs - 1) → ends_below ord c ≡ true → length cs ≡ seat ord cs
+  seat_end cs c r o e b = all_end cs c (end_in_order ord cs r o) (sym (e ∙ last_is cs)) b
+
+  less_in : (w : Ordering) (xs : List T) → Behind ord w xs → ends_below ord xs ≡ true → w ≡ Less
+  less_in Less xs a b = refl
+  less_in Equal xs a b = absurd (not_both (ends_below ord xs) (above_ends ord xs a) b)
+  less_in Greater xs a b = absurd (not_both (ends_below ord xs) (above_ends ord xs a) b)
+
+  less_is : (w : Ordering) → is_lt w ≡ true → w ≡ Less
+  less_is Less e = refl
+  less_is Equal e = cc
+  less_is Greater e = cc
+
+  -- where the last element is below what is sought, that isn't there
+  pub gap_end : (xs : List T) → IsOrdered ord xs → ends_below ord xs ≡ true → IsGap ord xs (length xs)
+  gap_end [] o b = cc
+  gap_end (x ∷ []) o b =
+      let l = less_is (ord x) b in
+      record { is_place = rw l refl; is_absent = rw l refl }
+  gap_end (x ∷ (y ∷ ys)) o b =
+      let l = less_in (ord x) (y ∷ ys) o.0 b in
+      let gap = gap_end (y ∷ ys) o.1 b in
+      record { is_place = rw l (ap suc gap.is_place); is_absent = rw l gap.is_absent }
+
+  pub below_end : (o : Option T) (x : T) → o ≡ Some x → ord x ≡ Less → is_below ord o ≡ true
+  below_end o x e l = ap (λ (p : Option T). is_below ord p) e ∙ ap (λ (w : Ordering). is_lt w) l
 
   -- what the comparison of a chunk answers
   pub less_side : (o : Option T) (x : T) → o ≡ Some x → ord x ≡ Less → Less ≡ side (is_below ord o)

@@ -1,11 +1,12 @@
 //! A part of a list.
-ghost use Rattle.std.specs.Prelude.{slice_get, slice_set, ◌≡◌, ◌+◌, ◌<◌, ◌≤◌, [], ◌∷◌, ◌++◌, IfOk, MatchResult, length, insert};
+ghost use Rattle.std.specs.Prelude.{slice_get, slice_set, ◌≡◌, ◌+◌, ◌<◌, ◌≤◌, [], ◌∷◌, ◌++◌, IfOk, MatchResult, length, insert, true};
+ghost use mathlib.Core.List.{reverse};
 ghost use Rattle.std.specs.Option.{option_copied};
 ghost use Rattle.std.specs.Fn.{ComputesKey};
 ghost use Rattle.std.specs.List.Sorted.{IsSearchInRange};
 ghost use Rattle.std.specs.declared.cmp.Ordering.{Ordering as Order};
 ghost use Rattle.sorted_list.specs.Order.{IsOrdered, IsFound, IsGap, found, place, set_in, take_out};
-ghost use Rattle.sorted_list.specs.Chunks.{chunk_len, last_of};
+ghost use Rattle.sorted_list.specs.Chunks.{chunk_len, last_of, ends_below};
 ghost use Rattle.sorted_list.specs.Rooms.{over_half};
 
 use std::alloc::{AllocError, Global};
@@ -108,12 +109,30 @@ impl<T> Chunk<T> {
 }
 
 impl<T> Chunk<T> {
-    /// Where what is sought stands, or how many elements are below it.
-    pub(crate) fn search<F: FnMut(&T) -> Ordering>(&self, order: F) -> Result<usize, usize>
+    /// Whether the last element is below what is sought.
+    pub(crate) fn ends_below<F: Fn(&T) -> Ordering>(&self, order: &F) -> bool
+        requires { F.IsAlwaysCallable order.now }
+        ensures { (ord : T → Order) → ComputesKey F.FnMut ord order.now → result ≡ true → ends_below ord self.now ≡ true }
+    {
+        match self.last() {
+            Some(item) => match order(item) {
+                Ordering::Less => true,
+                _ => false,
+            },
+            None => false,
+        }
+    }
+
+    /// Where what is sought stands, or how many elements are below it. The last element is looked at first: what is put
+    /// in rising order goes behind it.
+    pub(crate) fn search<F: Fn(&T) -> Ordering>(&self, order: F) -> Result<usize, usize>
         requires { F.IsAlwaysCallable order }
         ensures bound { IsSearchInRange result (length self.now) }
         ensures place { (ord : T → Order) → ComputesKey F.FnMut ord order → IsOrdered ord self.now → MatchResult result (IsFound ord self.now) (IsGap ord self.now) }
     {
+        if self.ends_below(&order) {
+            return Err(self.len());
+        }
         self.items.as_slice().binary_search_by(order)
     }
 }
@@ -178,21 +197,18 @@ impl<T: Drop> Chunk<T> {
         }
     }
 
-    /// Moves the last element in front of those of another chunk.
-    fn move_last(&mut self, upper: &mut Chunk<T>)
+    // Moves the last element behind those of another chunk.
+    fn move_last(&mut self, others: &mut Chunk<T>)
         requires some { 0 < length self.old }
-        requires room { length upper.old < chunk_len }
-        ensures all { self.new ++ upper.new ≡ self.old ++ upper.old }
+        requires room { length others.old < chunk_len }
+        ensures all { self.new ++ reverse others.new ≡ self.old ++ reverse others.old }
         ensures rest { length self.new + 1 ≡ length self.old }
-        ensures more { length upper.new ≡ length upper.old + 1 }
+        ensures more { length others.new ≡ length others.old + 1 }
     {
         let Some(item) = self.items.pop() else {
             unreachable!();
         };
-        match upper.items.insert(0, item) {
-            Ok(_) => {}
-            Err(_) => unreachable!(),
-        }
+        others.push(item);
     }
 
     /// Moves the upper half of a full chunk into an empty one.
@@ -206,5 +222,6 @@ impl<T: Drop> Chunk<T> {
         for _ in 0..HALF_LEN {
             self.move_last(upper);
         }
+        upper.items.reverse();
     }
 }
