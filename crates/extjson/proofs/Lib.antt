@@ -11,4 +11,5 @@ pub mod Once
 pub mod Unwrapped
 pub mod Shallow
 pub mod Deeper
+pub mod Dollars
 pub mod Formed

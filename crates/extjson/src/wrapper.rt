@@ -25,9 +25,19 @@ pub(crate) enum Wrapper {
 }
 
 impl Wrapper {
-    /// The wrapper of this outermost name.
-    #[tactic(auto, unfolding(crate::specs::Wrappers::wrapper_of, crate::specs::Wrappers::outermost_names))]
+    /// The wrapper of this outermost name. All of them begin with a dollar sign, and most names don't.
     pub(crate) fn named(name: &str) -> Option<Wrapper>
+        ensures { result ≡ wrapper_of name.now }
+    {
+        match name.as_bytes().first() {
+            Some(36) => Wrapper::in_table(name),
+            _ => None,
+        }
+    }
+
+    // The wrapper of this name, looked up in the table.
+    #[tactic(auto, unfolding(crate::specs::Wrappers::wrapper_of, crate::specs::Wrappers::outermost_names))]
+    fn in_table(name: &str) -> Option<Wrapper>
         ensures { result ≡ wrapper_of name.now }
     {
         match name {

@@ -1,8 +1,13 @@
-use Rattle.std.proofs.Common.{sym}
-use Rattle.containers.proofs.Entries.{absent_none}
-use Rattle.extjson.specs.Wrappers.{wrapper_of, outermost_names}
+use Rattle.std.proofs.Common.{ℕ, List, ap, sym, ◌∙◌}
+use Rattle.std.specs.Prelude.{slice_get}
+use Rattle.std.specs.Option.{option_copied}
+use Rattle.extjson.proofs.Dollars.{no_dollar}
 use Rattle.extjson.proofs.wrapper.Wrapper.named.Goals as goal
 
 pub returns-in_default : goal.returns-in_default
-unfolding wrapper_of outermost_names
-returns-in_default c = let h = c.in_default in sym (absent_none c.args.name.now outermost_names (h.not-text, (h.not-text-2, (h.not-text-3, (h.not-text-4, (h.not-text-5, (h.not-text-6, (h.not-text-7, (h.not-text-8, (h.not-text-9, (h.not-text-10, (h.not-text-11, (h.not-text-12, (h.not-text-13, (h.not-text-14, (h.not-text-15, (h.not-text-16, (h.not-text-17, tt))))))))))))))))))
+returns-in_default c =
+    no_dollar c.args.name.now _ (sym (ap option_copied c.in_default.is) ∙ (c.first.ensures.value ∙ ap (λ (l : List ℕ). slice_get l 0) c.as_bytes.ensures.value)) (λ e. c.in_default.field-0-test.1 cc)
+
+pub returns-in_default-2 : goal.returns-in_default-2
+returns-in_default-2 c =
+    no_dollar c.args.name.now _ (sym (ap option_copied c.in_default.is) ∙ (c.first.ensures.value ∙ ap (λ (l : List ℕ). slice_get l 0) c.as_bytes.ensures.value)) (λ e. cc)
