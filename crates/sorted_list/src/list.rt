@@ -51,8 +51,9 @@ const PUSHED_LEN: usize = CHUNK_LEN - 1;
 
 /// Elements in an order by which a search finds them. Contracts also see how many more may be put, and how many pushed.
 ///
-/// They stand in chunks of up to 127. A search takes log n steps; to put an element in or to take one out moves at most
-/// those of a chunk, and once in some 64 times a pointer for each chunk behind it.
+/// They stand in chunks of up to 127. A search takes log n steps, and one step where all elements are below what is sought;
+/// to put an element in or to take one out moves at most those of a chunk, and once in some 64 times a pointer for each
+/// chunk behind it.
 #[derive(Drop)]
 pub struct SortedList<T> {
     alloc: Global,
