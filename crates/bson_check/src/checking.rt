@@ -17,6 +17,7 @@ use crate::repeats::first_fault;
 
 #[tactic(auto, unfolding(crate::specs::Reading::value_with, crate::specs::Passing::jump))]
 #[cycle(check)]
+#[inline(always)]
 fn value(levels: usize, tag: u8, end: usize, bytes: &[u8]) -> Result<&[u8], BsonFault>
     requires { length bytes.now ≤ end }
     ensures skips { Reads (λ r. r.now) result (rests (value_at levels tag end bytes.now)) }
