@@ -1,4 +1,4 @@
-use Rattle.std.proofs.Common.{◌<◌, arith, slice_index}
+use Rattle.std.proofs.Common.{arith, slice_index}
 use Rattle.std.proofs.lemmas.Nat.{le_or_l, le_or_r}
 use Rattle.std.proofs.lemmas.Str.Ascii.{IsAscii-more}
 use Rattle.bson_check.proofs.parts.is_ascii.Goals as goal
