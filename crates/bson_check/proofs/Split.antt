@@ -129,6 +129,15 @@ as_end total x o r e k n = e ∙ ap (λ (p : Option ℕ). answer p (Ok x)) (k �
 pub as_repeat : {A : Type 0} (total : Result A BsonFault) (x : A) (o r : Option ℕ) (q : ℕ) → total ≡ answer o (Ok x) → o ≡ r → r ≡ Some q → total ≡ fails kinds.Repeat q
 as_repeat total x o r q e k n = e ∙ ap (λ (p : Option ℕ). answer p (Ok x)) (k ∙ n)
 
+-- where no byte was passed, no name was
+none_passed : (ns : List (List ℕ)) (from to : List ℕ) → length to ≡ length from → Path ns from to → ns ≡ []
+none_passed [] from to same p = refl
+none_passed (n ∷ ns) from to same p = absurd (omega (arith, same, p.0))
+
+-- one name alone doesn't stand twice
+pub once_alone : (end : ℕ) (ns : List (List ℕ)) (n body rest : List ℕ) → length rest ≡ length body → Path ns body rest → repeat_at end [] (ns ++ n ∷ []) body ≡ None
+once_alone end ns n body rest same path = ap (λ (l : List (List ℕ)). repeat_at end [] (l ++ n ∷ []) body) (none_passed ns body rest same path)
+
 -- ---- names without a repeat are distinct
 
 pub has_first : (n : List ℕ) (seen ms : List (List ℕ)) → has n (seen ++ n ∷ ms) ≡ true

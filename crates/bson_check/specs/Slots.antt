@@ -1,7 +1,7 @@
 -- A set of names that may hold more than was put in: three bits for each slot of a name.
-use Rattle.std.specs.Prelude.{◌≡◌, ℕ, ◌+◌, ◌-◌, ◌*◌, ◌/◌, ◌%◌, List, [], ◌∷◌, length, slice_index}
+use Rattle.std.specs.Prelude.{◌≡◌, ℕ, ◌+◌, ◌-◌, ◌*◌, ◌/◌, ◌%◌, ◌^◌, List, [], ◌∷◌, length, slice_index}
 use Rattle.std.specs.Int.{bit_at}
-use Rattle.std.specs.Int.Bits.{bit_and}
+use Rattle.std.specs.Int.Bits.{bit_and, bit_or}
 
 abbrev pub hash_on : ℕ → ℕ → List ℕ → ℕ
 hash_on factor h [] = h
@@ -22,6 +22,10 @@ second_bit slot = slot / 17179869184 % 64
 
 abbrev pub third_bit : ℕ → ℕ
 third_bit slot = slot / 268435456 % 64
+
+-- these three bits
+abbrev pub mask_of : ℕ → ℕ
+mask_of slot = bit_or (bit_or (2 ^ first_bit slot) (2 ^ second_bit slot)) (2 ^ third_bit slot)
 
 abbrev pub HasBitsAt : ℕ → List ℕ → ℕ → Type 0
 HasBitsAt i words slot = (bit_at (slice_index words i) (first_bit slot) ≡ 1) × (bit_at (slice_index words i) (second_bit slot) ≡ 1) × (bit_at (slice_index words i) (third_bit slot) ≡ 1)

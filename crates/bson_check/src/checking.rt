@@ -1,7 +1,7 @@
 //! Checking a document without taking memory.
 ghost use Rattle.std.specs.Prelude.{◌≡◌, ◌<◌, ◌≤◌, ◌↔◌, [], length, IfOk, IsOk, drop};
 ghost use Rattle.std.specs.Result.{result_err};
-ghost use Rattle.bson_check.specs.Reading.{Reads, rests, void, item_at, fields_at, items_at, value_at, document_at, array_at, scoped_at, document_of};
+ghost use Rattle.bson_check.specs.Reading.{Reads, rests, void, run_at, int_at, item_at, fields_at, items_at, value_at, document_at, array_at, scoped_at, document_of};
 ghost use Rattle.bson_check.specs.Spells.{IsSomeDocument};
 ghost use Rattle.bson_check.specs.Faults.{first_fault};
 ghost use Rattle.bson_check.specs.Passing.{count_of, jump};
@@ -15,9 +15,25 @@ use crate::parts::{
 use crate::passing::after;
 use crate::repeats::first_fault;
 
+// Skips the first `n` bytes. An int32 is four.
+#[tactic(auto, unfolding(crate::specs::Reading::run_at, crate::specs::Reading::int_at))]
+fn skip(n: usize, end: usize, bytes: &[u8]) -> Result<&[u8], BsonFault>
+    requires { length bytes.now ≤ end }
+    ensures skips { Reads (λ r. r.now) result (rests (run_at n end bytes.now)) }
+    ensures int { n ≡ 4 → Reads (λ r. r.now) result (rests (int_at end bytes.now)) }
+    ensures fits { IfOk result (λ r. length r.now ≤ length bytes.now) }
+    ensures jumps { IfOk result (λ r. r.now ≡ drop n bytes.now) }
+{
+    if bytes.len() < n {
+        return Err(fault(BsonKind::Length, end - bytes.len()));
+    }
+    Ok(&bytes[n..])
+}
+
 #[tactic(auto, unfolding(crate::specs::Reading::value_with, crate::specs::Passing::jump))]
 #[cycle(check)]
-fn value(levels: usize, tag: u8, end: usize, bytes: &[u8]) -> Result<&[u8], BsonFault>
+#[inline(never)]
+fn any_value(levels: usize, tag: u8, end: usize, bytes: &[u8]) -> Result<&[u8], BsonFault>
     requires { length bytes.now ≤ end }
     ensures skips { Reads (λ r. r.now) result (rests (value_at levels tag end bytes.now)) }
     ensures fits { IfOk result (λ r. length r.now ≤ length bytes.now) }
@@ -91,8 +107,28 @@ fn value(levels: usize, tag: u8, end: usize, bytes: &[u8]) -> Result<&[u8], Bson
     }
 }
 
+// The commonest types are looked for first, at the place of the call.
+#[tactic(auto, unfolding(crate::specs::Reading::value_with, crate::specs::Passing::jump))]
+#[cycle(check)]
+#[inline(always)]
+fn value(levels: usize, tag: u8, end: usize, bytes: &[u8]) -> Result<&[u8], BsonFault>
+    requires { length bytes.now ≤ end }
+    ensures skips { Reads (λ r. r.now) result (rests (value_at levels tag end bytes.now)) }
+    ensures fits { IfOk result (λ r. length r.now ≤ length bytes.now) }
+    ensures jumps { IfOk result (λ r. r.now ≡ jump tag bytes.now) }
+{
+    match tag {
+        1 | 9 | 17 | 18 => skip(8, end, bytes),
+        3 => document(levels, end, bytes),
+        7 => skip(12, end, bytes),
+        16 => skip(4, end, bytes),
+        _ => any_value(levels, tag, end, bytes),
+    }
+}
+
 #[tactic(auto, unfolding(crate::specs::Reading::document_at))]
 #[cycle(check)]
+#[inline(always)]
 fn document(levels: usize, end: usize, bytes: &[u8]) -> Result<&[u8], BsonFault>
     requires { length bytes.now ≤ end }
     ensures skips { Reads (λ r. r.now) result (rests (document_at levels end bytes.now)) }
@@ -166,6 +202,10 @@ fn fields(levels: usize, end: usize, body: &[u8]) -> Result<(), BsonFault>
             Ok((name, behind)) => match value(levels, *tag, end, behind) {
                 Err(f) => return Err(first_fault(end, body, after(*tag, behind).len(), f)),
                 Ok(next) => {
+                    // One name alone can't stand twice.
+                    if next.is_empty() && rest.len() == body.len() {
+                        return Ok(());
+                    }
                     names.insert(name.as_bytes());
                     rest = next;
                 }

@@ -2,9 +2,10 @@
 ghost use Rattle.std.specs.Prelude.{◌≡◌, ◌≤◌, [], ◌∷◌, ◌++◌, length, List, ℕ};
 ghost use Rattle.bson_check.specs.Passing.{Path, repeat_at};
 ghost use Rattle.bson_check.specs.NameSet.{Holds, outline};
+ghost use Rattle.bson_check.specs.Slots.{slot_of};
 
 use crate::repeats::first_repeat;
-use crate::slots::{FACTOR, put};
+use crate::slots::{FACTOR, mixed, put_slot};
 
 /// The names that a walk has passed, each by three bits of one of four words. Of a document of ten names the set
 /// nearly always tells that none stands twice, and then they needn't be walked once more.
@@ -14,20 +15,18 @@ pub struct NameSet {
     may_repeat: bool,
 }
 
-// Four bytes that tell most names apart.
-fn outline(name: &[u8]) -> [u8; 4]
-    ensures { result ≡ outline name.now }
+// The slot of four bytes that tell most names apart.
+#[tactic(auto, unfolding(crate::specs::Slots::slot_of))]
+fn outline_slot(name: &[u8]) -> u64
+    ensures { result ≡ slot_of 11400714819323198485 (outline name.now) }
 {
     if name.is_empty() {
-        return [0; 4];
+        return 0;
     }
-    let last = name.len() - 1;
-    [
-        name[0],
-        name[name.len() / 2],
-        name[last],
-        (name.len() % 256) as u8,
-    ]
+    let first = mixed(FACTOR, 0, name[0]);
+    let middle = mixed(FACTOR, first, name[name.len() / 2]);
+    let last = mixed(FACTOR, middle, name[name.len() - 1]);
+    mixed(FACTOR, last, (name.len() % 256) as u8)
 }
 
 impl NameSet {
@@ -48,7 +47,7 @@ impl NameSet {
         ensures { (ns : List (List ℕ)) → Holds self.old ns → Holds self.new (ns ++ name.now ∷ []) }
     {
         if !self.may_repeat {
-            self.may_repeat = put(FACTOR, &outline(name), &mut self.words);
+            self.may_repeat = put_slot(outline_slot(name), &mut self.words);
         }
     }
 

@@ -2,8 +2,8 @@
 //!
 //! Each reader takes the bytes from its part on, and `end`: the place, in bytes from the document's start, at which
 //! these bytes end. So a fault's place is `end` less what is left. It gives what it read and the bytes behind it.
-ghost use Rattle.std.specs.Prelude.{◌≡◌, ◌+◌, ◌-◌, ◌*◌, ◌<◌, ◌≤◌, [], ◌∷◌, ◌++◌, length, slice_index, ◌^◌, List, ℕ, ◌==◌, IfSome, IfOk, Contains, MatchOption, OnOk, OnErr, true, false, take, drop, Ok};
-ghost use Rattle.std.specs.Str.{is_utf8};
+ghost use Rattle.std.specs.Prelude.{◌≡◌, ◌+◌, ◌-◌, ◌*◌, ◌<◌, ◌≤◌, [], ◌∷◌, ◌++◌, length, slice_index, ◌^◌, List, ℕ, ◌==◌, IfSome, IfOk, Contains, MatchOption, OnOk, OnErr, true, false, take, drop, Ok, Some, None, IfNone, IsTrue};
+ghost use Rattle.std.specs.Str.{is_utf8, IsAscii};
 ghost use Rattle.std.specs.List.{position_from};
 ghost use Rattle.bson_check.specs.Passing.{count_of, past_zero, upto_zero, head_at};
 ghost use Rattle.bson_check.specs.Reading.{Reads, number, int_at, bool_at, text_at, frame_at, Frame, name_at, is_type, run_at, raw_at, binary_at, cut_at, regex_at, pointer_at, scope_at, total_at, long_of, stamp_of, Scoped};
@@ -106,14 +106,39 @@ pub fn boolean(end: usize, bytes: &[u8]) -> Result<(Value, &[u8]), BsonFault>
     }
 }
 
+/// Whether every byte is ASCII. It looks at all of them without a branch, which LLVM does many bytes at a time.
+fn is_ascii(bytes: &[u8]) -> bool
+    ensures { IsTrue result → IsAscii bytes.now }
+{
+    let mut seen = 0u8;
+    for byte in bytes {
+        seen |= *byte;
+    }
+    seen < 128
+}
+
+/// Whether the bytes are UTF-8. Most texts are ASCII, which is quicker to see.
+fn is_text(bytes: &[u8], ascii: bool) -> bool
+    requires { IsTrue ascii → IsAscii bytes.now }
+    ensures { result ≡ is_utf8 bytes.now }
+{
+    if ascii {
+        return true;
+    }
+    match str::from_utf8(bytes) {
+        Ok(_) => true,
+        Err(_) => false,
+    }
+}
+
 /// The bytes as a text, where they are UTF-8.
 pub fn as_text(bytes: &[u8]) -> Option<&str>
     ensures { MatchOption result (is_utf8 bytes.now ≡ false) (λ text. (is_utf8 bytes.now ≡ true) × (text.now ≡ bytes.now)) }
 {
-    match str::from_utf8(bytes) {
-        Ok(text) => Some(text),
-        Err(_) => None,
+    if !is_text(bytes, is_ascii(bytes)) {
+        return None;
     }
+    Some(unsafe { str::from_utf8_unchecked(bytes) })
 }
 
 /// A string: its length with the final zero in four bytes, its text in UTF-8, a zero.
@@ -398,7 +423,26 @@ pub fn is_type(tag: u8) -> bool
     tag != 0 && (tag < 20 || tag == 255 || tag == 127)
 }
 
+/// How many bytes stand before the first zero, and whether each of them is ASCII.
+fn name_span(bytes: &[u8]) -> Option<(usize, bool)>
+    ensures none { IfNone result (position_from (λ b. b == 0) 0 bytes.now ≡ None) }
+    ensures place { IfSome result (λ s. (position_from (λ b. b == 0) 0 bytes.now ≡ Some s.0) × (s.0 < length bytes.now)) }
+    ensures ascii { IfSome result (λ s. IsTrue s.1 → IsAscii (take s.0 bytes.now)) }
+    ensures no_zero { IfSome result (λ s. Contains (take s.0 bytes.now) 0 → ⊥) }
+{
+    let mut seen = 0u8;
+    for at in 0..bytes.len() {
+        let byte = bytes[at];
+        if byte == 0 {
+            return Some((at, seen < 128));
+        }
+        seen |= byte;
+    }
+    None
+}
+
 /// The type byte and the name of an element.
+#[tactic(auto, unfolding(crate::specs::Reading::name_at, crate::specs::Passing::past_zero, crate::specs::Passing::upto_zero))]
 pub fn head(end: usize, tag: u8, bytes: &[u8]) -> Result<(&str, &[u8]), BsonFault>
     requires { length bytes.now < end }
     ensures gives { Reads (λ x. (x.0.now, x.1.now)) result (head_at end tag bytes.now) }
@@ -411,9 +455,12 @@ pub fn head(end: usize, tag: u8, bytes: &[u8]) -> Result<(&str, &[u8]), BsonFaul
     if !is_type(tag) {
         return Err(fault(BsonKind::Tag, at - 1));
     }
-    let (name, rest) = name(end, bytes)?;
-    match as_text(name) {
-        None => Err(fault(BsonKind::Text, at)),
-        Some(text) => Ok((text, rest)),
+    let Some((len, ascii)) = name_span(bytes) else {
+        return Err(fault(BsonKind::Length, at));
+    };
+    let name = &bytes[..len];
+    if !is_text(name, ascii) {
+        return Err(fault(BsonKind::Text, at));
     }
+    Ok((unsafe { str::from_utf8_unchecked(name) }, &bytes[len + 1..]))
 }
