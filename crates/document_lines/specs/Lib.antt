@@ -1,3 +1,4 @@
+pub mod Digits
 pub mod Elems
 pub mod Json
 pub mod Lines
