@@ -94,8 +94,9 @@ fn put_int(out: &mut Vec<u8>, n: i32) -> Result<(), AllocError>
     ensures { OnOk result (out.new.items ≡ out.old.items ++ text_of (int_tree n)) }
 {
     let mut digits = Buffer::new();
-    out.extend_from_slice(b"{\"$numberInt\":")?;
-    put_quoted(out, digits.format(n).as_bytes())?;
+    out.extend_from_slice(b"{\"$numberInt\":\"")?;
+    out.extend_from_slice(digits.format(n).as_bytes())?;
+    out.push(34)?;
     out.push(125)?;
     Ok(())
 }
@@ -104,8 +105,9 @@ fn put_long(out: &mut Vec<u8>, n: i64) -> Result<(), AllocError>
     ensures { OnOk result (out.new.items ≡ out.old.items ++ text_of (long_tree n)) }
 {
     let mut digits = Buffer::new();
-    out.extend_from_slice(b"{\"$numberLong\":")?;
-    put_quoted(out, digits.format(n).as_bytes())?;
+    out.extend_from_slice(b"{\"$numberLong\":\"")?;
+    out.extend_from_slice(digits.format(n).as_bytes())?;
+    out.push(34)?;
     out.push(125)?;
     Ok(())
 }
