@@ -5,4 +5,5 @@ pub mod HexRuns
 pub mod InOrder
 pub mod JsonPieces
 pub mod LeafTexts
+pub mod NumberTexts
 pub mod Texts

@@ -1,3 +1,5 @@
+pub mod Digits
 pub mod Elems
 pub mod Json
 pub mod Lines
+pub mod Strings

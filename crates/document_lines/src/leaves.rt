@@ -1,8 +1,9 @@
 //! Values that hold no document and no array, as canonical Extended JSON.
-ghost use Rattle.std.specs.Prelude.{◌≡◌, ◌*◌, ◌++◌, length, OnOk, reverse};
+ghost use Rattle.std.specs.Prelude.{◌≡◌, ◌≢◌, ◌*◌, ◌++◌, length, OnOk, IfSome, reverse};
 ghost use Rattle.std.specs.Fmt.{decimal};
 ghost use Rattle.bson_value.specs.declared.value.Value.{out-Value};
-ghost use Rattle.bson_view.specs.Meaning.{IsLeaf};
+ghost use Rattle.bson_value.specs.declared.value.Value.TheVariants.{Int, Long};
+ghost use Rattle.bson_view.specs.Meaning.{IsLeaf, value_in};
 ghost use Rattle.bson_view.specs.Views.{elem_value};
 ghost use Rattle.json_text.specs.Print.{text_of};
 ghost use Rattle.extjson.specs.Trees.{hex_text, double_tree, decimal_tree, binary_tree, oid_tree, int_tree, long_tree, date_tree, regex_tree, pointer_tree, code_tree, symbol_tree, stamp_tree};
@@ -11,6 +12,7 @@ ghost use Rattle.document_lines.specs.Json.{json_of};
 use crate::digits::write_digits;
 use crate::strings::put_quoted;
 use base64::engine::general_purpose::STANDARD;
+use bson_check::parts::{long, number_of, run};
 use bson_value::{Ts, type_byte};
 use bson_view::{Elem, ValueRef};
 use itoa::Buffer;
@@ -92,8 +94,9 @@ fn put_int(out: &mut Vec<u8>, n: i32) -> Result<(), AllocError>
     ensures { OnOk result (out.new.items ≡ out.old.items ++ text_of (int_tree n)) }
 {
     let mut digits = Buffer::new();
-    out.extend_from_slice(b"{\"$numberInt\":")?;
-    put_quoted(out, digits.format(n).as_bytes())?;
+    out.extend_from_slice(b"{\"$numberInt\":\"")?;
+    out.extend_from_slice(digits.format(n).as_bytes())?;
+    out.push(34)?;
     out.push(125)?;
     Ok(())
 }
@@ -102,8 +105,9 @@ fn put_long(out: &mut Vec<u8>, n: i64) -> Result<(), AllocError>
     ensures { OnOk result (out.new.items ≡ out.old.items ++ text_of (long_tree n)) }
 {
     let mut digits = Buffer::new();
-    out.extend_from_slice(b"{\"$numberLong\":")?;
-    put_quoted(out, digits.format(n).as_bytes())?;
+    out.extend_from_slice(b"{\"$numberLong\":\"")?;
+    out.extend_from_slice(digits.format(n).as_bytes())?;
+    out.push(34)?;
     out.push(125)?;
     Ok(())
 }
@@ -175,14 +179,34 @@ fn put_stamp(out: &mut Vec<u8>, ts: Ts) -> Result<(), AllocError>
     Ok(())
 }
 
-/// Appends a value that holds no document and no array.
-pub fn put_leaf(alloc: Global, out: &mut Vec<u8>, elem: &Elem<'_>) -> Result<(), AllocError>
-    requires { IsLeaf (out-Value (elem_value elem.now)) }
+// The number that these bytes are, where there are enough.
+#[tactic(auto, unfolding(bson_view::specs::Meaning::value_in, bson_view::specs::Meaning::read_value, bson_check::specs::Reading::value_with, bson_check::specs::Reading::int_at))]
+fn int_of(bytes: &[u8]) -> Option<i32>
+    ensures { IfSome result (λ n. Int n ≡ value_in 16 bytes.now) }
+{
+    if bytes.len() < 4 {
+        return None;
+    }
+    Some(number_of(bytes).cast_signed())
+}
+
+#[tactic(auto, unfolding(bson_view::specs::Meaning::value_in, bson_view::specs::Meaning::read_value, bson_check::specs::Reading::value_with, bson_check::specs::Reading::int_at))]
+fn long_of(bytes: &[u8]) -> Option<i64>
+    ensures { IfSome result (λ n. Long n ≡ value_in 18 bytes.now) }
+{
+    match run(8, bytes.len(), bytes) {
+        Ok((run, _)) => Some(long(run)),
+        Err(_) => None,
+    }
+}
+
+// A value of any type but text. It stands apart, so that the frame of its callers stays small.
+#[inline(never)]
+fn put_read(alloc: Global, out: &mut Vec<u8>, elem: &Elem<'_>) -> Result<(), AllocError>
+    requires leaf { IsLeaf (out-Value (elem_value elem.now)) }
+    requires no_text { elem.now.tag ≢ 2 }
     ensures { OnOk result (out.new.items ≡ out.old.items ++ json_of (elem_value elem.now)) }
 {
-    if elem.tag == type_byte::STRING {
-        return put_text(out, elem);
-    }
     elem.spells();
     match elem.read() {
         ValueRef::Double(bits) => put_double(out, bits),
@@ -206,4 +230,25 @@ pub fn put_leaf(alloc: Global, out: &mut Vec<u8>, elem: &Elem<'_>) -> Result<(),
         ValueRef::MinKey => out.extend_from_slice(b"{\"$minKey\":1}"),
         ValueRef::MaxKey => out.extend_from_slice(b"{\"$maxKey\":1}"),
     }
+}
+
+/// Appends a value that holds no document and no array.
+pub fn put_leaf(alloc: Global, out: &mut Vec<u8>, elem: &Elem<'_>) -> Result<(), AllocError>
+    requires { IsLeaf (out-Value (elem_value elem.now)) }
+    ensures { OnOk result (out.new.items ≡ out.old.items ++ json_of (elem_value elem.now)) }
+{
+    if elem.tag == type_byte::STRING {
+        return put_text(out, elem);
+    }
+    if elem.tag == type_byte::INT32
+        && let Some(n) = int_of(elem.value)
+    {
+        return put_int(out, n);
+    }
+    if elem.tag == type_byte::INT64
+        && let Some(n) = long_of(elem.value)
+    {
+        return put_long(out, n);
+    }
+    put_read(alloc, out, elem)
 }

@@ -3,4 +3,4 @@ use Rattle.document_lines.proofs.Escapes.{plain_more}
 use Rattle.document_lines.proofs.strings.is_plain.Goals as goal
 
 pub bytes-preserved : goal.bytes-preserved
-bytes-preserved c = plain_more c.args.run.now c.bytes.i (slice_index_or c.args.run.now c.bytes.i 0) c.bytes.special c.bytes-test.true (search rules) c.bytes.invariant
+bytes-preserved c = plain_more c.args.run.now c.bytes.i (slice_index_or c.args.run.now c.bytes.i 0) c.bytes.special (search rules) c.bytes.invariant

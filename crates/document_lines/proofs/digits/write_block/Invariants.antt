@@ -1,0 +1,6 @@
+use Rattle.std.proofs.Common.{◌+◌}
+use Rattle.document_lines.specs.Digits.{AreWritten}
+use Rattle.document_lines.proofs.digits.write_block.Given as goal
+
+abbrev pub invariant-bytes : goal.invariant-bytes
+invariant-bytes l = AreWritten l.bytes l.text (l.at + l.i)
