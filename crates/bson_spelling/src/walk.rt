@@ -16,7 +16,9 @@ fn are_bytes(bytes: &[u8])
     ensures { AreBytes bytes.now }
 {}
 
+// It and what it calls for one element are inlined into the two loops below, which pass over a leaf without a call.
 #[cycle(walk)]
+#[inline(always)]
 fn is_value(elem: &Elem<'_>, levels: usize) -> bool
     ensures { IsTrue result ↔ IsSpelled levels (elem_part elem.now) }
 {
@@ -30,6 +32,7 @@ fn is_value(elem: &Elem<'_>, levels: usize) -> bool
 }
 
 #[cycle(walk)]
+#[inline(always)]
 fn is_document(elem: &Elem<'_>, levels: usize) -> bool
     requires { elem.now.tag ≡ 3 }
     ensures { IsTrue result ↔ IsSpelled levels (elem_part elem.now) }
@@ -43,6 +46,7 @@ fn is_document(elem: &Elem<'_>, levels: usize) -> bool
 }
 
 #[cycle(walk)]
+#[inline(always)]
 fn is_array(elem: &Elem<'_>, levels: usize) -> bool
     requires { elem.now.tag ≡ 4 }
     ensures { IsTrue result ↔ IsSpelled levels (elem_part elem.now) }
@@ -57,6 +61,7 @@ fn is_array(elem: &Elem<'_>, levels: usize) -> bool
 
 // A code's total and its text have one spelling: the scope decides.
 #[cycle(walk)]
+#[inline(always)]
 fn is_scoped(elem: &Elem<'_>, levels: usize) -> bool
     requires { elem.now.tag ≡ 15 }
     ensures { IsTrue result ↔ IsSpelled levels (elem_part elem.now) }
