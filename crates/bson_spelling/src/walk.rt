@@ -1,5 +1,5 @@
 //! A walk over the bytes of a document that says whether they are its spelling.
-ghost use Rattle.std.specs.Prelude.{◌≡◌, ◌+◌, ◌<◌, ◌≤◌, ◌^◌, ◌↔◌, length, IsTrue};
+ghost use Rattle.std.specs.Prelude.{◌≡◌, ◌+◌, ◌<◌, ◌≤◌, ◌^◌, ◌↔◌, length, IsTrue, true, ℕ};
 ghost use Rattle.bson_value.specs.Levels.{levels_of};
 ghost use Rattle.bson_value.specs.Spelling.{document_text};
 ghost use Rattle.bson_value.specs.WellFormed.{AreBytes};
@@ -16,23 +16,31 @@ fn are_bytes(bytes: &[u8])
     ensures { AreBytes bytes.now }
 {}
 
-// It and what it calls for one element are inlined into the two loops below, which pass over a leaf without a call.
+// Whether it holds no document and no array. Such a value has one spelling.
+fn is_leaf(elem: &Elem<'_>) -> bool
+    ensures { (n : ℕ) → result ≡ true → IsSpelled n (elem_part elem.now) }
+{
+    elem.spells();
+    !matches!(
+        elem.tag,
+        type_byte::DOCUMENT | type_byte::ARRAY | type_byte::SCOPED_CODE
+    )
+}
+
 #[cycle(walk)]
-#[inline(always)]
-fn is_value(elem: &Elem<'_>, levels: usize) -> bool
-    ensures { IsTrue result ↔ IsSpelled levels (elem_part elem.now) }
+fn is_value(elem: Elem<'_>, levels: usize) -> bool
+    ensures { IsTrue result ↔ IsSpelled levels (elem_part elem.entry) }
 {
     elem.spells();
     match elem.tag {
-        type_byte::DOCUMENT => is_document(elem, levels),
-        type_byte::ARRAY => is_array(elem, levels),
-        type_byte::SCOPED_CODE => is_scoped(elem, levels),
+        type_byte::DOCUMENT => is_document(&elem, levels),
+        type_byte::ARRAY => is_array(&elem, levels),
+        type_byte::SCOPED_CODE => is_scoped(&elem, levels),
         _ => true,
     }
 }
 
 #[cycle(walk)]
-#[inline(always)]
 fn is_document(elem: &Elem<'_>, levels: usize) -> bool
     requires { elem.now.tag ≡ 3 }
     ensures { IsTrue result ↔ IsSpelled levels (elem_part elem.now) }
@@ -46,7 +54,6 @@ fn is_document(elem: &Elem<'_>, levels: usize) -> bool
 }
 
 #[cycle(walk)]
-#[inline(always)]
 fn is_array(elem: &Elem<'_>, levels: usize) -> bool
     requires { elem.now.tag ≡ 4 }
     ensures { IsTrue result ↔ IsSpelled levels (elem_part elem.now) }
@@ -61,7 +68,6 @@ fn is_array(elem: &Elem<'_>, levels: usize) -> bool
 
 // A code's total and its text have one spelling: the scope decides.
 #[cycle(walk)]
-#[inline(always)]
 fn is_scoped(elem: &Elem<'_>, levels: usize) -> bool
     requires { elem.now.tag ≡ 15 }
     ensures { IsTrue result ↔ IsSpelled levels (elem_part elem.now) }
@@ -85,7 +91,7 @@ fn are_fields(elements: Elements<'_>, levels: usize) -> bool
     for elem in elements {
         elem.spells();
         are_bytes(elem.value);
-        let spelled = is_value(&elem, levels);
+        let spelled = is_leaf(&elem) || is_value(elem, levels);
         if !spelled {
             return false;
         }
@@ -108,7 +114,7 @@ fn are_items(elements: Elements<'_>, levels: usize) -> bool
         if !named {
             return false;
         }
-        let spelled = is_value(&elem, levels);
+        let spelled = is_leaf(&elem) || is_value(elem, levels);
         if !spelled {
             return false;
         }
