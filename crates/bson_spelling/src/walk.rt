@@ -1,5 +1,6 @@
 //! A walk over the bytes of a document that says whether they are its spelling.
 ghost use Rattle.std.specs.Prelude.{◌≡◌, ◌+◌, ◌<◌, ◌≤◌, ◌^◌, ◌↔◌, length, IsTrue, true, ℕ};
+ghost use Rattle.std.specs.Fmt.{decimal};
 ghost use Rattle.bson_value.specs.Levels.{levels_of};
 ghost use Rattle.bson_value.specs.Spelling.{document_text};
 ghost use Rattle.bson_value.specs.WellFormed.{AreBytes};
@@ -15,6 +16,18 @@ use itoa::Buffer;
 fn are_bytes(bytes: &[u8])
     ensures { AreBytes bytes.now }
 {}
+
+// Whether the name is the number of an element of an array.
+fn is_index(name: &[u8], index: usize) -> bool
+    ensures { IsTrue result ↔ (name.now ≡ decimal index) }
+{
+    if index < 10 {
+        let digit = [b'0' + index as u8];
+        return name == digit.as_slice();
+    }
+    let mut digits = Buffer::new();
+    name == digits.format(index).as_bytes()
+}
 
 // Whether it holds no document and no array. Such a value has one spelling.
 fn is_leaf(elem: &Elem<'_>) -> bool
@@ -105,12 +118,11 @@ fn are_items(elements: Elements<'_>, levels: usize) -> bool
     requires names { AreNames (parts_left elements) }
     ensures { IsTrue result ↔ AreSpelledItems levels 0 (parts_left elements.entry) }
 {
-    let mut digits = Buffer::new();
     let mut index: usize = 0;
     for elem in elements {
         elem.spells();
         are_bytes(elem.value);
-        let named = elem.name == digits.format(index).as_bytes();
+        let named = is_index(elem.name, index);
         if !named {
             return false;
         }

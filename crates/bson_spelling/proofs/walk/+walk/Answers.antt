@@ -35,11 +35,8 @@ are_fields-loop-elem-preserved t c =
 
 pub are_items-returns-then-not-named : goal.are_items-returns-then-not-named
 are_items-returns-then-not-named t c =
-    let name = c.in-Some.elem.name.now in
-    let digits = c.as_bytes.result.now in
-    let index : digits ≡ decimal c.loop-elem.index = c.as_bytes.ensures.value ∙ c.format.ensures.text in
     items_unnamed c.args.levels (parts_left c.args.elements) (parts_left c.loop-elem.elem-iterator) (elem_part c.in-Some.elem) (parts_left c.next.new.self) c.in-Some.ensures.steps c.spells.ensures.spelled c.are_bytes.ensures c.loop-elem.index c.loop-elem.invariant.same c.loop-elem.invariant.short c.loop-elem.invariant.names
-    (λ e. let y = c.eq-named.ensures ∙ (bytes_eq-Decides name digits).1 (e ∙ sym index) in let n = c.if-not-named.true in absurd cc)
+    (λ e. apart c.is_index-named.result (c.is_index-named.ensures.1 e) c.if-not-named.true)
 
 pub are_items-returns-then-not-spelled : goal.are_items-returns-then-not-spelled
 are_items-returns-then-not-spelled t c =
@@ -53,10 +50,9 @@ are_items-loop-elem-preserved t c =
     let p = elem_part c.in-Some.elem in
     let ps = parts_left c.next.new.self in
     let spelled : IsSpelled c.args.levels p = elim c.if-is_leaf.branch [ are_items-then-is_leaf w ↦ c.is_leaf.ensures c.args.levels (search rules) | are_items-else-is_leaf w ↦ w.is_value-spelled.ensures.0 (search rules) ] in
-    let named : c.eq-named.result ≡ true = search rules in
-    let index : c.as_bytes.result.now ≡ decimal c.loop-elem.index = c.as_bytes.ensures.value ∙ c.format.ensures.text in
+    let named : c.is_index-named.result ≡ true = search rules in
     record {
-      same = items_on c.args.levels all left p ps c.in-Some.ensures.steps c.spells.ensures.spelled c.are_bytes.ensures c.loop-elem.index c.loop-elem.invariant.same c.loop-elem.invariant.short c.loop-elem.invariant.names ((bytes_eq-Decides c.in-Some.elem.name.now c.as_bytes.result.now).0 (sym c.eq-named.ensures ∙ named) ∙ index) spelled;
+      same = items_on c.args.levels all left p ps c.in-Some.ensures.steps c.spells.ensures.spelled c.are_bytes.ensures c.loop-elem.index c.loop-elem.invariant.same c.loop-elem.invariant.short c.loop-elem.invariant.names (c.is_index-named.ensures.0 named) spelled;
       short = items_short c.args.levels all left p ps c.in-Some.ensures.steps c.spells.ensures.spelled c.are_bytes.ensures c.loop-elem.index c.loop-elem.invariant.same c.loop-elem.invariant.short c.loop-elem.invariant.names;
       names = items_names c.args.levels all left p ps c.in-Some.ensures.steps c.spells.ensures.spelled c.are_bytes.ensures c.loop-elem.index c.loop-elem.invariant.same c.loop-elem.invariant.short c.loop-elem.invariant.names;
     }
