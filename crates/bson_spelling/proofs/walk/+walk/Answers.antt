@@ -1,8 +1,6 @@
 use Rattle.std.proofs.Common.{◌≡◌, ℕ, suc, ◌+◌, List, length, drop, sym, ap, subst, arith, rules, ◌∙◌, inl, inr, Bool, true, false}
 use Rattle.std.specs.Prelude.{IsTrue, ◌↔◌}
-use Rattle.std.specs.Fmt.{decimal}
 use Rattle.std.proofs.lemmas.List.{length-drop}
-use Rattle.std.proofs.lemmas.Slice.Eq.{bytes_eq-Decides}
 use Rattle.bson_view.specs.Views.{elem_part, elem_value, parts_left}
 use Rattle.bson_view.specs.Meaning.{is_value, value_in}
 use Rattle.bson_view.proofs.Meanings.{value_checked}
