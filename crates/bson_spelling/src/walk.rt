@@ -1,5 +1,6 @@
 //! A walk over the bytes of a document that says whether they are its spelling.
-ghost use Rattle.std.specs.Prelude.{◌≡◌, ◌+◌, ◌<◌, ◌≤◌, ◌^◌, ◌↔◌, length, IsTrue};
+ghost use Rattle.std.specs.Prelude.{◌≡◌, ◌+◌, ◌<◌, ◌≤◌, ◌^◌, ◌↔◌, length, IsTrue, true, ℕ};
+ghost use Rattle.std.specs.Fmt.{decimal};
 ghost use Rattle.bson_value.specs.Levels.{levels_of};
 ghost use Rattle.bson_value.specs.Spelling.{document_text};
 ghost use Rattle.bson_value.specs.WellFormed.{AreBytes};
@@ -16,15 +17,38 @@ fn are_bytes(bytes: &[u8])
     ensures { AreBytes bytes.now }
 {}
 
+// Whether the name is the number of an element of an array.
+fn is_index(name: &[u8], index: usize) -> bool
+    ensures { IsTrue result ↔ (name.now ≡ decimal index) }
+{
+    if index < 10 {
+        let digit = [b'0' + index as u8];
+        return name == digit.as_slice();
+    }
+    let mut digits = Buffer::new();
+    name == digits.format(index).as_bytes()
+}
+
+// Whether it holds no document and no array. Such a value has one spelling.
+fn is_leaf(elem: &Elem<'_>) -> bool
+    ensures { (n : ℕ) → result ≡ true → IsSpelled n (elem_part elem.now) }
+{
+    elem.spells();
+    !matches!(
+        elem.tag,
+        type_byte::DOCUMENT | type_byte::ARRAY | type_byte::SCOPED_CODE
+    )
+}
+
 #[cycle(walk)]
-fn is_value(elem: &Elem<'_>, levels: usize) -> bool
-    ensures { IsTrue result ↔ IsSpelled levels (elem_part elem.now) }
+fn is_value(elem: Elem<'_>, levels: usize) -> bool
+    ensures { IsTrue result ↔ IsSpelled levels (elem_part elem.entry) }
 {
     elem.spells();
     match elem.tag {
-        type_byte::DOCUMENT => is_document(elem, levels),
-        type_byte::ARRAY => is_array(elem, levels),
-        type_byte::SCOPED_CODE => is_scoped(elem, levels),
+        type_byte::DOCUMENT => is_document(&elem, levels),
+        type_byte::ARRAY => is_array(&elem, levels),
+        type_byte::SCOPED_CODE => is_scoped(&elem, levels),
         _ => true,
     }
 }
@@ -80,7 +104,7 @@ fn are_fields(elements: Elements<'_>, levels: usize) -> bool
     for elem in elements {
         elem.spells();
         are_bytes(elem.value);
-        let spelled = is_value(&elem, levels);
+        let spelled = is_leaf(&elem) || is_value(elem, levels);
         if !spelled {
             return false;
         }
@@ -94,16 +118,15 @@ fn are_items(elements: Elements<'_>, levels: usize) -> bool
     requires names { AreNames (parts_left elements) }
     ensures { IsTrue result ↔ AreSpelledItems levels 0 (parts_left elements.entry) }
 {
-    let mut digits = Buffer::new();
     let mut index: usize = 0;
     for elem in elements {
         elem.spells();
         are_bytes(elem.value);
-        let named = elem.name == digits.format(index).as_bytes();
+        let named = is_index(elem.name, index);
         if !named {
             return false;
         }
-        let spelled = is_value(&elem, levels);
+        let spelled = is_leaf(&elem) || is_value(elem, levels);
         if !spelled {
             return false;
         }

@@ -1,21 +1,23 @@
-use Rattle.std.proofs.Common.{◌≡◌, ℕ, suc, ◌+◌, List, length, drop, sym, ap, subst, arith, rules, ◌∙◌, inl, inr, true, false}
+use Rattle.std.proofs.Common.{◌≡◌, ℕ, suc, ◌+◌, List, length, drop, sym, ap, subst, arith, rules, ◌∙◌, inl, inr, Bool, true, false}
 use Rattle.std.specs.Prelude.{IsTrue, ◌↔◌}
-use Rattle.std.specs.Fmt.{decimal}
 use Rattle.std.proofs.lemmas.List.{length-drop}
-use Rattle.std.proofs.lemmas.Slice.Eq.{bytes_eq-Decides}
-use Rattle.bson_view.specs.Parts.{Part}
 use Rattle.bson_view.specs.Views.{elem_part, elem_value, parts_left}
 use Rattle.bson_view.specs.Meaning.{is_value, value_in}
 use Rattle.bson_view.proofs.Meanings.{value_checked}
-use Rattle.bson_spelling.specs.Spelled.{IsSpelled, AreSpelledFields, AreSpelledItems}
-use Rattle.bson_spelling.proofs.Frames.{Within, document_is, array_is, array_names, scope_there, scope_is, no_level, leaf_is, behind_all, through}
-use Rattle.bson_spelling.proofs.Steps.{fields_no, fields_on, fields_short, fields_done, items_unnamed, items_no, items_on, items_short, items_names, items_done}
+use Rattle.bson_spelling.specs.Spelled.{IsSpelled}
+use Rattle.bson_spelling.proofs.Frames.{Within, document_is, array_is, scope_there, scope_is, no_level, leaf_is, behind_all, through}
+use Rattle.bson_spelling.proofs.Steps.{fields_no, fields_on, fields_short, items_unnamed, items_no, items_on, items_short, items_names}
+use Rattle.bson_spelling.proofs.walk.+walk.Goals.{are_fields-then-is_leaf, are_fields-else-is_leaf, are_items-then-is_leaf, are_items-else-is_leaf}
 use Rattle.bson_spelling.proofs.walk.+walk.Goals as goal
+
+-- a truth isn't false
+apart : (b : Bool) → b ≡ true → b ≡ false → ⊥
+apart b t f = let e : true ≡ false = sym t ∙ f in absurd cc
 
 pub are_fields-returns-then-not-spelled : goal.are_fields-returns-then-not-spelled
 are_fields-returns-then-not-spelled t c =
     fields_no c.args.levels (parts_left c.args.elements) (parts_left c.loop-elem.elem-iterator) (elem_part c.in-Some.elem) (parts_left c.next.new.self) c.in-Some.ensures.steps c.spells.ensures.spelled c.are_bytes.ensures c.loop-elem.invariant.same c.loop-elem.invariant.short
-    (λ o. let y = c.is_value-spelled.ensures.1 o in let n = c.if-not-spelled.true in absurd cc)
+    (λ o. elim c.if-is_leaf.branch [ are_fields-then-is_leaf w ↦ apart c.if-is_leaf.spelled (w.spelled-is ∙ w.if-is_leaf.true) c.if-not-spelled.true | are_fields-else-is_leaf w ↦ apart c.if-is_leaf.spelled (w.spelled-is ∙ w.is_value-spelled.ensures.1 o) c.if-not-spelled.true ])
 
 pub are_fields-loop-elem-preserved : goal.are_fields-loop-elem-preserved
 are_fields-loop-elem-preserved t c =
@@ -23,24 +25,21 @@ are_fields-loop-elem-preserved t c =
     let left = parts_left c.loop-elem.elem-iterator in
     let p = elem_part c.in-Some.elem in
     let ps = parts_left c.next.new.self in
-    let yes : c.is_value-spelled.result ≡ true = search rules in
+    let spelled : IsSpelled c.args.levels p = elim c.if-is_leaf.branch [ are_fields-then-is_leaf w ↦ c.is_leaf.ensures c.args.levels (search rules) | are_fields-else-is_leaf w ↦ w.is_value-spelled.ensures.0 (search rules) ] in
     record {
-      same = fields_on c.args.levels all left p ps c.in-Some.ensures.steps c.spells.ensures.spelled c.are_bytes.ensures c.loop-elem.invariant.same c.loop-elem.invariant.short (c.is_value-spelled.ensures.0 yes);
+      same = fields_on c.args.levels all left p ps c.in-Some.ensures.steps c.spells.ensures.spelled c.are_bytes.ensures c.loop-elem.invariant.same c.loop-elem.invariant.short spelled;
       short = fields_short c.args.levels all left p ps c.in-Some.ensures.steps c.spells.ensures.spelled c.are_bytes.ensures c.loop-elem.invariant.same c.loop-elem.invariant.short;
     }
 
 pub are_items-returns-then-not-named : goal.are_items-returns-then-not-named
 are_items-returns-then-not-named t c =
-    let name = c.in-Some.elem.name.now in
-    let digits = c.as_bytes.result.now in
-    let index : digits ≡ decimal c.loop-elem.index = c.as_bytes.ensures.value ∙ c.format.ensures.text in
     items_unnamed c.args.levels (parts_left c.args.elements) (parts_left c.loop-elem.elem-iterator) (elem_part c.in-Some.elem) (parts_left c.next.new.self) c.in-Some.ensures.steps c.spells.ensures.spelled c.are_bytes.ensures c.loop-elem.index c.loop-elem.invariant.same c.loop-elem.invariant.short c.loop-elem.invariant.names
-    (λ e. let y = c.eq-named.ensures ∙ (bytes_eq-Decides name digits).1 (e ∙ sym index) in let n = c.if-not-named.true in absurd cc)
+    (λ e. apart c.is_index-named.result (c.is_index-named.ensures.1 e) c.if-not-named.true)
 
 pub are_items-returns-then-not-spelled : goal.are_items-returns-then-not-spelled
 are_items-returns-then-not-spelled t c =
     items_no c.args.levels (parts_left c.args.elements) (parts_left c.loop-elem.elem-iterator) (elem_part c.in-Some.elem) (parts_left c.next.new.self) c.in-Some.ensures.steps c.spells.ensures.spelled c.are_bytes.ensures c.loop-elem.index c.loop-elem.invariant.same c.loop-elem.invariant.short c.loop-elem.invariant.names
-    (λ o. let y = c.is_value-spelled.ensures.1 o in let n = c.if-not-spelled.true in absurd cc)
+    (λ o. elim c.if-is_leaf.branch [ are_items-then-is_leaf w ↦ apart c.if-is_leaf.spelled (w.spelled-is ∙ w.if-is_leaf.true) c.if-not-spelled.true | are_items-else-is_leaf w ↦ apart c.if-is_leaf.spelled (w.spelled-is ∙ w.is_value-spelled.ensures.1 o) c.if-not-spelled.true ])
 
 pub are_items-loop-elem-preserved : goal.are_items-loop-elem-preserved
 are_items-loop-elem-preserved t c =
@@ -48,11 +47,10 @@ are_items-loop-elem-preserved t c =
     let left = parts_left c.loop-elem.elem-iterator in
     let p = elem_part c.in-Some.elem in
     let ps = parts_left c.next.new.self in
-    let yes : c.is_value-spelled.result ≡ true = search rules in
-    let named : c.eq-named.result ≡ true = search rules in
-    let index : c.as_bytes.result.now ≡ decimal c.loop-elem.index = c.as_bytes.ensures.value ∙ c.format.ensures.text in
+    let spelled : IsSpelled c.args.levels p = elim c.if-is_leaf.branch [ are_items-then-is_leaf w ↦ c.is_leaf.ensures c.args.levels (search rules) | are_items-else-is_leaf w ↦ w.is_value-spelled.ensures.0 (search rules) ] in
+    let named : c.is_index-named.result ≡ true = search rules in
     record {
-      same = items_on c.args.levels all left p ps c.in-Some.ensures.steps c.spells.ensures.spelled c.are_bytes.ensures c.loop-elem.index c.loop-elem.invariant.same c.loop-elem.invariant.short c.loop-elem.invariant.names ((bytes_eq-Decides c.in-Some.elem.name.now c.as_bytes.result.now).0 (sym c.eq-named.ensures ∙ named) ∙ index) (c.is_value-spelled.ensures.0 yes);
+      same = items_on c.args.levels all left p ps c.in-Some.ensures.steps c.spells.ensures.spelled c.are_bytes.ensures c.loop-elem.index c.loop-elem.invariant.same c.loop-elem.invariant.short c.loop-elem.invariant.names (c.is_index-named.ensures.0 named) spelled;
       short = items_short c.args.levels all left p ps c.in-Some.ensures.steps c.spells.ensures.spelled c.are_bytes.ensures c.loop-elem.index c.loop-elem.invariant.same c.loop-elem.invariant.short c.loop-elem.invariant.names;
       names = items_names c.args.levels all left p ps c.in-Some.ensures.steps c.spells.ensures.spelled c.are_bytes.ensures c.loop-elem.index c.loop-elem.invariant.same c.loop-elem.invariant.short c.loop-elem.invariant.names;
     }
@@ -108,5 +106,5 @@ is_scoped-returns t c =
 
 pub is_value-returns-in_default : goal.is_value-returns-in_default
 is_value-returns-in_default t c =
-    let e = c.args.elem.now in
+    let e = c.args.elem in
     (λ y. leaf_is e.tag e.value.now (elem_value e) c.args.levels c.spells.ensures.spelled c.spells.ensures.leaf (search rules) (search rules) (search rules), λ w. search rules)
