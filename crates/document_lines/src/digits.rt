@@ -47,7 +47,8 @@ fn low_digits(bytes: &[u8], at: usize) -> [u8; BLOCK]
     digits
 }
 
-#[inline(always)]
+// Both digits of a block. It stands apart, so that LLVM makes vectors of its bytes and not of the blocks of its caller.
+#[inline(never)]
 fn write_block(bytes: &[u8], at: usize, text: &mut [u8])
     requires room { at + 16 ≤ length bytes.now }
     requires before { AreWritten bytes.now text.old at }
