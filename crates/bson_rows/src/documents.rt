@@ -90,7 +90,10 @@ pub fn length(alloc: Global, doc: &Doc) -> Result<String>
 }
 
 /// What a copy is written as.
-pub fn copied(alloc: Global, doc: &Doc) -> Result<String> {
+pub fn copied(alloc: Global, doc: &Doc) -> Result<String>
+    ensures { IfOk result (λ answer. (fits : Bool) × (IsTrue fits ↔ Fits doc.now 16793600 200)
+        × (string_bytes answer ≡ (if fits then digits_of doc.now else codes "another document"))) }
+{
     let copy = doc.copy(alloc)?;
     if same_up_to_order(doc, &copy) && copy.fits(MAX_DOCUMENT_BYTES, MAX_LEVELS) {
         return spelled(alloc, &copy);

@@ -1,10 +1,17 @@
 //! The orders of timestamps, namespaces and texts, names that are indexes, and a list.
-ghost use Rattle.std.specs.Prelude.{◌≡◌, ◌++◌, IfOk, codes, string_bytes};
+ghost use Rattle.std.specs.Prelude.{◌≡◌, ◌∷◌, ◌++◌, [], ℕ, IfOk, IfSome, OnOk, codes, pos, string_bytes};
+ghost use Rattle.std.specs.List.{FoldsTo};
+ghost use Rattle.std.specs.BTreeMap.{insert_entry};
+ghost use Rattle.std.specs.Fmt.{decimal};
 ghost use Rattle.std.specs.Ordering.{nat_cmp};
 ghost use Rattle.std.specs.Cmp.Lexicographic.{slice_cmp};
 ghost use Rattle.row_script.specs.Rows.{before_blank, behind_blank};
+ghost use Rattle.bson_value.specs.Digits.{index_of};
+ghost use Rattle.bson_value.specs.Namespace.{IsSplit};
+ghost use Rattle.bson_value.specs.NamespaceOrder.{namespace_cmp};
 ghost use Rattle.bson_value.specs.Timestamp.{stamp_cmp, stamp_number};
-ghost use Rattle.bson_rows.specs.Rows.{order_word, stamp_of, stamps_text, texts_text};
+ghost use Rattle.bson_value.specs.declared.namespace.NsName.{NsName as Namespace};
+ghost use Rattle.bson_rows.specs.Rows.{IsPlaced, Places, first_text, if_small, index_text, numbers_text, order_word, stamp_of, stamps_text, texts_text, words_of};
 
 use crate::texts::{joined, name, order_word};
 use anyhow::{Context, Result};
@@ -14,7 +21,6 @@ use row_script::{refused, words};
 use std::alloc::{AllocError, Global};
 use std::cmp::Ordering;
 use std::collections::BTreeMap;
-use std::fmt::Write;
 
 // Seconds and an ordinal, with a colon between.
 fn timestamp(text: &str) -> Result<Ts>
@@ -45,7 +51,9 @@ pub fn timestamps(alloc: Global, text: &str) -> Result<String>
     stamps_text(alloc, left, right)
 }
 
-fn namespace(alloc: Global, text: &str) -> Result<NsName> {
+fn namespace(alloc: Global, text: &str) -> Result<NsName>
+    ensures { IfOk result (λ ns. IsSplit text.now ns.db ns.coll) }
+{
     match NsName::split(alloc, text)? {
         Some(name) => Ok(name),
         None => refused("no namespace"),
@@ -53,14 +61,18 @@ fn namespace(alloc: Global, text: &str) -> Result<NsName> {
 }
 
 // Counts a namespace.
-fn count(alloc: Global, counts: &mut BTreeMap<NsName, u32>, text: &str, count: u32) -> Result<()> {
+fn count(alloc: Global, counts: &mut BTreeMap<NsName, u32>, text: &str, count: u32) -> Result<()>
+    ensures { OnOk result ((ns : Namespace) × IsSplit text.now ns.db ns.coll × (counts.new.entries ≡ insert_entry namespace_cmp counts.old.entries ns count)) }
+{
     let name = namespace(alloc, text)?;
     let _ = counts.insert(name, count)?;
     Ok(())
 }
 
 // Counts the namespaces that words name by the places of the words.
-fn count_words(alloc: Global, counts: &mut BTreeMap<NsName, u32>, text: &str) -> Result<()> {
+fn count_words(alloc: Global, counts: &mut BTreeMap<NsName, u32>, text: &str) -> Result<()>
+    ensures { OnOk result ((last : ℕ) × FoldsTo IsPlaced (counts.old.entries, 0) (words_of text.now) (counts.new.entries, last)) }
+{
     let mut place: u32 = 0;
     for word in text.split(' ') {
         place = place.saturating_add(1);
@@ -69,18 +81,28 @@ fn count_words(alloc: Global, counts: &mut BTreeMap<NsName, u32>, text: &str) ->
     Ok(())
 }
 
+// The database of a namespace, its place, and how many there are.
+fn place_text(alloc: Global, db: &str, place: u32, count: usize) -> Result<String>
+    ensures { IfOk result (λ answer. string_bytes answer ≡ db.now ++ codes " " ++ decimal place ++ codes " " ++ decimal count) }
+{
+    Ok(format!(in alloc; "{db} {place} {count}")?)
+}
+
 // The first entry, and how many there are.
-fn first_entry(alloc: Global, counts: &BTreeMap<NsName, u32>) -> Result<String> {
+fn first_entry(alloc: Global, counts: &BTreeMap<NsName, u32>) -> Result<String>
+    ensures { IfOk result (λ answer. string_bytes answer ≡ first_text counts.now.entries) }
+{
     match counts.first_key_value() {
-        Some((name, place)) => {
-            Ok(format!(in alloc; "{} {place} {}", name.db.as_str(), counts.len())?)
-        }
+        Some((name, place)) => place_text(alloc, name.db.as_str(), *place, counts.len()),
         None => refused("no entry"),
     }
 }
 
 /// A map of namespaces to the places of the words that last name them: its first entry, and how many it has.
-pub fn namespaces(alloc: Global, text: &str) -> Result<String> {
+pub fn namespaces(alloc: Global, text: &str) -> Result<String>
+    ensures { IfOk result (λ answer. (places : Places) × FoldsTo IsPlaced ([], 0) (words_of text.now) places
+        × (string_bytes answer ≡ first_text places.0)) }
+{
     let mut map = BTreeMap::new(alloc);
     count_words(alloc, &mut map, text)?;
     first_entry(alloc, &map)
@@ -138,37 +160,73 @@ pub fn texts(alloc: Global, text: &str) -> Result<String>
     )
 }
 
+fn small_index(name: &str) -> Option<usize>
+    ensures { result ≡ if_small (index_of name.now) }
+{
+    index_of(name)
+}
+
 /// The index that a name is.
-pub fn index(alloc: Global, text: &str) -> Result<String> {
-    let index = index_of(text);
+pub fn index(alloc: Global, text: &str) -> Result<String>
+    ensures { IfOk result (λ answer. string_bytes answer ≡ index_text text.now) }
+{
+    let index = small_index(text);
     Ok(format!(in alloc; "{index:?}")?)
 }
 
-// Puts in the numbers 1, 2 and 3, and then 9 at the place 1.
-fn put_numbers(list: &mut List<i32>) -> Result<(), AllocError> {
-    for n in [1, 2, 3] {
-        list.push(n)?;
-    }
-    if list.len() > 1 {
-        list.insert(1, 9)?;
-    }
-    Ok(())
+// Puts the numbers 1, 2 and 3 in.
+fn put_three(list: &mut List<i32>) -> Result<(), AllocError>
+    ensures { OnOk result (list.new ≡ list.old ++ pos 1 ∷ pos 2 ∷ pos 3 ∷ []) }
+{
+    list.push(1)?;
+    list.push(2)?;
+    list.push(3)
 }
 
-fn numbers_text(alloc: Global, numbers: &[i32]) -> Result<String> {
+// Puts in the numbers 1, 2 and 3, and then 9 at the place 1.
+fn put_numbers(list: &mut List<i32>) -> Result<(), AllocError>
+    requires { list.old ≡ [] }
+    ensures { OnOk result (list.new ≡ pos 1 ∷ pos 9 ∷ pos 2 ∷ pos 3 ∷ []) }
+{
+    put_three(list)?;
+    list.insert(1, 9)
+}
+
+fn numbers_text(alloc: Global, numbers: &[i32]) -> Result<String>
+    ensures { IfOk result (λ text. IfSome (numbers_text numbers.now) (λ shown. string_bytes text ≡ shown)) }
+{
     Ok(format!(in alloc; "{numbers:?}")?)
 }
 
-// The numbers of a list, and then these without 2.
-fn list_text(alloc: Global, list: &mut List<i32>) -> Result<String> {
-    let mut text = numbers_text(alloc, list.as_slice())?;
+// Takes 2 out.
+fn keep_others(list: &mut List<i32>)
+    requires { list.old ≡ pos 1 ∷ pos 9 ∷ pos 2 ∷ pos 3 ∷ [] }
+    ensures { list.new ≡ pos 1 ∷ pos 9 ∷ pos 3 ∷ [] }
+{
     list.retain(|n| *n != 2);
-    write!(&mut text, " {:?}", list.as_slice())?;
-    Ok(text)
+}
+
+// A text, and behind it numbers.
+fn with_numbers(alloc: Global, text: &str, numbers: &[i32]) -> Result<String>
+    ensures { IfOk result (λ answer. IfSome (numbers_text numbers.now) (λ shown. string_bytes answer ≡ text.now ++ codes " " ++ shown)) }
+{
+    Ok(format!(in alloc; "{text} {numbers:?}")?)
+}
+
+// The numbers of a list, and then these without 2.
+fn list_text(alloc: Global, list: &mut List<i32>) -> Result<String>
+    requires { list.old ≡ pos 1 ∷ pos 9 ∷ pos 2 ∷ pos 3 ∷ [] }
+    ensures { IfOk result (λ answer. string_bytes answer ≡ codes "[1, 9, 2, 3] [1, 9, 3]") }
+{
+    let text = numbers_text(alloc, list.as_slice())?;
+    keep_others(list);
+    with_numbers(alloc, text.as_str(), list.as_slice())
 }
 
 /// The numbers 1, 2, 3 with 9 put in at the place 1, and these without 2.
-pub fn list(alloc: Global) -> Result<String> {
+pub fn list(alloc: Global) -> Result<String>
+    ensures { IfOk result (λ answer. string_bytes answer ≡ codes "[1, 9, 2, 3] [1, 9, 3]") }
+{
     let mut list = List::with_capacity(alloc, 4)?;
     put_numbers(&mut list)?;
     list_text(alloc, &mut list)
