@@ -1,16 +1,12 @@
 -- What calls of a store and of a dump answer, as texts.
 use Rattle.std.specs.Prelude.{ℕ, List, [], ◌++◌, codes, Result, Ok, Err}
 use Rattle.std.specs.Fmt.{decimal}
-use Rattle.bson_value.specs.declared.value.Ts.{Ts}
 use Rattle.dump_run.specs.declared.fault.DumpFault.{DumpFault}
 use Rattle.dump_run.specs.declared.fault.DumpFault.TheVariants as faults
 use Rattle.dump_run.specs.declared.fault.DumpReport.{DumpReport}
-use Rattle.schedule_report.specs.Lines.{row_name}
+use Rattle.schedule_report.specs.Lines.{row_name, ts_text}
 use Rattle.store_core.specs.declared.fault.StoreFault.{StoreFault}
 use Rattle.store_core.specs.declared.fault.StoreFault.TheVariants as store_faults
-
-abbrev pub ts_text : Ts → List ℕ
-ts_text ts = decimal ts.secs ++ codes ":" ++ decimal ts.inc
 
 -- how many entries are recorded, or why none is
 abbrev pub command_text : Result ℕ StoreFault → List ℕ

@@ -1,7 +1,8 @@
 //! What calls answer, as texts. Want of memory ends in an error.
 ghost use Rattle.std.specs.Prelude.{◌≡◌, ◌++◌, IfOk, OnOk, string_bytes};
 ghost use Rattle.std.specs.Fmt.{decimal};
-ghost use Rattle.dump_rows.specs.Rows.{command_text, fault_text, finish_text, step_text, ts_text};
+ghost use Rattle.schedule_report.specs.Lines.{ts_text};
+ghost use Rattle.dump_rows.specs.Rows.{command_text, fault_text, finish_text, step_text};
 
 use anyhow::Result;
 use bson_value::Ts;

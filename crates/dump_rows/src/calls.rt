@@ -9,14 +9,14 @@
 //! - `restore`, `replay`: what the program tells on its report of a restore of these bytes, or how many bytes it lists.
 use crate::answers;
 use anyhow::{Result, bail};
-use bson_value::NsName;
 use dump_run::Dump;
-use row_script::Respondent;
+use row_script::ends::{sink, source};
+use row_script::{Respondent, all_words, namespace};
 use schedule_model::{Command, Line};
 use schedule_text::Schedule;
 use std::alloc::Global;
 use store_core::Store;
-use tool_io::{MemSink, MemSource};
+use tool_io::MemSink;
 use tools_cli::tools;
 
 /// Where the calls stand.
@@ -41,37 +41,13 @@ fn lines_of(alloc: Global, text: &str) -> Result<String> {
     Ok(lines)
 }
 
-// The first write to a sink that fails is that of this number, if there is one.
-fn sink(alloc: Global, failing: Option<u64>) -> Result<MemSink> {
-    let mut fails = Vec::new(alloc);
-    if let Some(write) = failing {
-        fails.push(write)?;
-    }
-    Ok(MemSink::new(alloc, fails))
-}
-
 // The words of a restore, with or without the replay of the oplog.
-fn restore_words(alloc: Global, replay: bool) -> Result<Vec<String>> {
-    let mut words = Vec::new(alloc);
-    put_word(alloc, &mut words, "restore")?;
-    put_word(alloc, &mut words, "--archive")?;
+fn restore_words(replay: bool) -> &'static str {
     if replay {
-        put_word(alloc, &mut words, "--oplogReplay")?;
+        "restore --archive --oplogReplay"
+    } else {
+        "restore --archive"
     }
-    Ok(words)
-}
-
-fn put_word(alloc: Global, words: &mut Vec<String>, word: &str) -> Result<()> {
-    let word = String::from_str(alloc, word)?;
-    words.push(word)?;
-    Ok(())
-}
-
-// These bytes as an input, which gives up to 4096 of them a read.
-fn source(alloc: Global, bytes: &[u8]) -> Result<MemSource> {
-    let pieces = vec![in alloc; 4096]?;
-    let bytes = bytes.to_vec(alloc)?;
-    Ok(MemSource::new(bytes, pieces, Vec::new(alloc)))
 }
 
 // What a call tells, in one line.
@@ -84,8 +60,8 @@ fn told(alloc: Global, status: u8, length: usize, report: &str) -> Result<String
 
 // What the program tells of a restore of these bytes, or how long its listing is.
 fn restored(alloc: Global, archive: &[u8], replay: bool) -> Result<String> {
-    let words = restore_words(alloc, replay)?;
-    let mut input = source(alloc, archive)?;
+    let words = all_words(alloc, restore_words(replay))?;
+    let mut input = source(alloc, archive, 4096, None)?;
     let mut output = sink(alloc, None)?;
     let mut report = sink(alloc, None)?;
     let status = tools(alloc, &words, &mut input, &mut output, &mut report);
@@ -161,9 +137,7 @@ impl Calls {
 
     fn copy(&mut self, alloc: Global, text: &str) -> Result<String> {
         let (name, count) = text.split_once(' ').unwrap_or((text, "1"));
-        let Some(ns) = NsName::split(alloc, name)? else {
-            bail!("no name: {name}");
-        };
+        let ns = namespace(alloc, name)?;
         let count = number(count)?;
         let Some(dump) = &mut self.dump else {
             bail!("no dump");

@@ -11,14 +11,6 @@ use json_tree::Tree;
 use row_script::{answer, number, words};
 use std::alloc::{AllocError, Global};
 
-/// The text of a value.
-pub fn text_of(alloc: Global, tree: &Tree) -> Result<String>
-    ensures { IfOk result (λ t. string_bytes t ≡ text_of tree.now) }
-{
-    let text = print(alloc, tree)?;
-    Ok(text.into_string()?)
-}
-
 // Whether the copy of a value is another one.
 fn is_copied(alloc: Global, tree: &Tree, other: &Tree) -> Result<bool, AllocError>
     ensures { IfOk result (λ is_so. IsTrue is_so ↔ (other.now ≡ tree.now)) }

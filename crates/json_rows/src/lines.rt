@@ -1,26 +1,12 @@
 //! The line of a document, from its bytes and from the built document.
 use anyhow::Result;
 use bson_encode::encode;
-use bson_value::{Doc, Value};
+use bson_value::Doc;
 use bson_view::{Held, View};
 use document_lines::{Lines, ListForm};
-use extjson::value_of;
-use json_text::parse;
-use json_tree::Tree;
+use row_script::jsons::document;
 use row_script::{answer, refused};
 use std::alloc::Global;
-
-fn document_of(alloc: Global, tree: &Tree) -> Result<Doc> {
-    match value_of(alloc, tree)? {
-        Value::Object(doc) => Ok(doc),
-        _ => refused("no document"),
-    }
-}
-
-fn document(alloc: Global, text: &str) -> Result<Doc> {
-    let tree = parse(alloc, text)?;
-    document_of(alloc, &tree)
-}
 
 // A line without its end.
 fn ended(alloc: Global, line: &[u8]) -> Result<String> {

@@ -6,16 +6,17 @@ ghost use Rattle.json_tree.specs.declared.tree.Tree.{Tree as Trees};
 ghost use Rattle.json_text.specs.Print.{text_of};
 ghost use Rattle.json_text.specs.Reading.{tree_of_text};
 ghost use Rattle.metadata_text.specs.Metadata.{metadata_of, metadata_tree};
-ghost use Rattle.json_rows.specs.Rows.{Names, metadata_array, with_length};
+ghost use Rattle.row_script.specs.Names.{Names};
+ghost use Rattle.json_rows.specs.Rows.{metadata_array, with_length};
 
-use crate::jsons::{arrays, text_of};
+use crate::jsons::arrays;
 use anyhow::Result;
-use bson_value::NsName;
 use containers::{List as JList, Text};
 use json_text::parse;
 use json_tree::Tree;
 use metadata_text::{MetaFault, metadata_of, metadata_text};
-use row_script::{number, refused, words};
+use row_script::jsons::text_of;
+use row_script::{namespace, number, words};
 use std::alloc::{AllocError, Global};
 
 // The options and the definitions as one array.
@@ -58,10 +59,8 @@ pub fn read(alloc: Global, text: &str) -> Result<String>
 fn named(alloc: Global, name: &str, options: &Tree, defs: &JList<Tree>) -> Result<Text>
     ensures { IfOk result (λ t. (ns : Name) × Names name.now ns × (t ≡ text_of (metadata_tree ns.coll options.now defs.now))) }
 {
-    match NsName::split(alloc, name)? {
-        Some(ns) => Ok(metadata_text(alloc, &ns, options, defs)?),
-        None => refused("no namespace"),
-    }
+    let ns = namespace(alloc, name)?;
+    Ok(metadata_text(alloc, &ns, options, defs)?)
 }
 
 // The same with options that are read, and no definitions.

@@ -8,24 +8,18 @@ ghost use Rattle.json_text.specs.Print.{text_of};
 ghost use Rattle.json_text.specs.Reading.{tree_of_text};
 ghost use Rattle.extjson.specs.Plain.{wrapped_numbers};
 ghost use Rattle.extjson.specs.Values.{value_of};
-ghost use Rattle.json_rows.specs.Rows.{number_of, value_in, value_text};
+ghost use Rattle.row_script.specs.Jsons.{value_text};
+ghost use Rattle.row_script.specs.Texts.{number_of};
+ghost use Rattle.json_rows.specs.Rows.{value_in};
 
-use crate::jsons::text_of;
 use anyhow::Result;
 use bson_core::decode_value;
-use bson_value::Value;
-use extjson::{ExtFault, tree_of, value_of, wrap_numbers};
+use extjson::{ExtFault, value_of, wrap_numbers};
 use json_text::parse;
 use json_tree::Tree;
+use row_script::jsons::{shown, text_of};
 use row_script::{bytes, number, refused, words};
 use std::alloc::{AllocError, Global};
-
-fn shown(alloc: Global, value: &Value) -> Result<String>
-    ensures { IfOk result (λ t. string_bytes t ≡ value_text value.now) }
-{
-    let tree = tree_of(alloc, value)?;
-    text_of(alloc, &tree)
-}
 
 // The text of the value that a tree is, or its fault.
 fn read_of(alloc: Global, tree: &Tree) -> Result<String>

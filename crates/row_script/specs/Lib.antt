@@ -1,3 +1,9 @@
 pub mod Rows
+pub mod Texts
+pub mod Names
+pub mod Documents
+pub mod Jsons
+pub mod Spellings
+pub mod Ends
 pub mod Tallies
 pub mod Runs

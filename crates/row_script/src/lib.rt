@@ -1,5 +1,8 @@
 //! Scripts of worked rows. Each line asks for an answer by a verb and a text, and tells behind ` = ` which answer is wanted:
 //! `VERB TEXT = ANSWER`. A line without ` = ` wants the empty answer. Empty lines and lines that begin with `#` are passed over.
+//!
+//! Beside the run of a script stands what several programs of rows ask by and show: words and answers, names of collections, documents
+//! as JSON (`jsons`) and as digits (`spellings`), and ends in memory (`ends`).
 #![tactic(auto)]
 
 ghost use Rattle.std.specs.Prelude.{◌≡◌, ℕ, List, ⊤, string_bytes, IfOk, OnOk};
@@ -7,15 +10,20 @@ ghost use Rattle.row_script.specs.Runs.{Asks, Takes, Runs, Tells};
 ghost use Rattle.row_script.specs.Tallies.{no_rows};
 ghost use Rattle.row_script.specs.declared.tally.Tally.{Tally};
 
+pub mod ends;
+pub mod jsons;
+mod names;
 mod rows;
+pub mod spellings;
 mod tally;
 mod texts;
 
 use crate::tally::Tally;
 use anyhow::{Context, Result};
+pub use names::namespace;
 use std::alloc::Global;
 use std::io::{Read, Write};
-pub use texts::{answer, bytes, digits, number, refused, truth, words};
+pub use texts::{all_words, answer, bytes, digits, number, refused, truth, words};
 
 /// What answers the rows of a script.
 pub trait Respondent {

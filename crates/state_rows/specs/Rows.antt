@@ -1,31 +1,10 @@
--- What rows write, and what they show of collections.
-use Rattle.std.specs.Prelude.{◌≡◌, ◌++◌, ◌==◌, ℕ, List, Bool, Option, None, Some, Ok, codes, flat_map, is_some, if◌then◌else◌}
+-- What rows show of collections.
+use Rattle.std.specs.Prelude.{◌++◌, ◌==◌, ℕ, List, Option, None, Some, codes, flat_map, is_some, if◌then◌else◌}
 use Rattle.std.specs.FinMap as map
 use Rattle.json_tree.specs.declared.tree.Tree.{Tree}
 use Rattle.json_text.specs.Print.{text_of}
-use Rattle.json_text.specs.Reading.{tree_of_text}
-use Rattle.extjson.specs.Values.{value_of}
-use Rattle.bson_value.specs.Namespace.{IsSplit}
-use Rattle.bson_value.specs.declared.namespace.NsName.{NsName}
-use Rattle.bson_value.specs.declared.value.Value.{Value}
-use Rattle.bson_value.specs.declared.value.Value.TheVariants.{Object}
 use Rattle.coll_state.specs.Kept.{is_short}
 use Rattle.coll_state.specs.Rows.{Document, Table}
-
--- a text names a collection
-abbrev pub Names : List ℕ → NsName → Type 0
-Names text ns = IsSplit text ns.db ns.coll
-
--- a text writes a value
-unfoldable pub WriteValue : List ℕ → Value → Type 0
-WriteValue text value = (tree : Tree) × (tree_of_text text ≡ Ok tree) × (value_of tree ≡ Ok value)
-
--- a text writes a document
-abbrev pub Write : List ℕ → Document → Type 0
-Write text doc = WriteValue text (Object doc)
-
-abbrev pub truth_text : Bool → List ℕ
-truth_text is_so = if is_so then codes "yes" else codes "no"
 
 -- how a document is held
 abbrev pub kind_text : Option Document → List ℕ

@@ -3,12 +3,12 @@ ghost use Rattle.std.specs.Prelude.{◌≡◌, ◌↔◌, [], ◌∷◌, true, I
 ghost use Rattle.std.specs.FinMap as map;
 ghost use Rattle.coll_state.specs.ChangeAll.{HasId, change_all};
 ghost use Rattle.coll_state.specs.Rows.{Document};
-ghost use Rattle.state_rows.specs.Rows.{Write};
+ghost use Rattle.row_script.specs.Jsons.{Write};
 
-use crate::texts::document;
 use anyhow::Result;
 use bson_value::{List, NsName, Value};
 use coll_state::{COUNT_LIMIT, Change, State};
+use row_script::jsons::document;
 use row_script::refused;
 use std::alloc::{AllocError, Global};
 

@@ -2,7 +2,10 @@
 ghost use Rattle.std.specs.Prelude.{◌≡◌, ◌+◌, ◌++◌, ℕ, [], ◌∷◌, Option, None, Some, Ok, OnOk, IfOk, codes, is_some, option_map, flat_map, string_bytes};
 ghost use Rattle.std.specs.FinMap as map;
 ghost use Rattle.std.specs.Fmt.{decimal};
+ghost use Rattle.row_script.specs.Jsons.{Write, WriteValue};
+ghost use Rattle.row_script.specs.Names.{Names};
 ghost use Rattle.row_script.specs.Rows.{before_blank, behind_blank};
+ghost use Rattle.row_script.specs.Texts.{truth_text};
 ghost use Rattle.json_tree.specs.declared.tree.Tree.{Tree as Trees};
 ghost use Rattle.json_text.specs.Print.{text_of};
 ghost use Rattle.json_text.specs.Reading.{tree_of_text};
@@ -13,18 +16,19 @@ ghost use Rattle.coll_state.specs.ChangeAll.{change_all};
 ghost use Rattle.coll_state.specs.Changes.{no_rows, put, remove, create, drop_db, drop_ns, rename, add_index, drop_index, document_at, has_index};
 ghost use Rattle.coll_state.specs.Kept.{shown, shown_in};
 ghost use Rattle.coll_state.specs.Rows.{Document};
-ghost use Rattle.state_rows.specs.Rows.{Names, Write, WriteValue, collection_text, definition_text, held_text, incarnation_text, kind_text, truth_text};
+ghost use Rattle.state_rows.specs.Rows.{collection_text, definition_text, held_text, incarnation_text, kind_text};
 
 use crate::changes;
-use crate::texts::{document, levels, namespace, value};
+use crate::levels::levels;
 use anyhow::Result;
 use bson_value::{CText, Doc, NsName, Value};
 use bson_view::Held;
 use coll_state::{COUNT_LIMIT, State};
 use containers::List as JList;
-use json_text::{parse, print};
+use json_text::parse;
 use json_tree::Tree;
-use row_script::{answer, number, refused, truth, words};
+use row_script::jsons::{document, text_of, value};
+use row_script::{answer, namespace, number, refused, truth, words};
 use std::alloc::{AllocError, Global};
 
 /// The collections, and the incarnation that was asked for last.
@@ -408,7 +412,7 @@ fn collection_text(state: &State, alloc: Global, ns: &NsName) -> Result<String>
 fn put_definition(alloc: Global, text: &mut String, def: &Tree) -> Result<()>
     ensures { OnOk result (string_bytes text.new ≡ string_bytes text.old ++ definition_text def.now) }
 {
-    let json = print(alloc, def)?;
+    let json = text_of(alloc, def)?;
     text.push(' ')?;
     Ok(text.push_str(json.as_str())?)
 }
@@ -416,8 +420,7 @@ fn put_definition(alloc: Global, text: &mut String, def: &Tree) -> Result<()>
 fn definitions_text(alloc: Global, options: &Tree, defs: &JList<Tree>) -> Result<String>
     ensures { IfOk result (λ text. string_bytes text ≡ text_of options.now ++ flat_map definition_text defs.now) }
 {
-    let json = print(alloc, options)?;
-    let mut text = json.into_string()?;
+    let mut text = text_of(alloc, options)?;
     for def in defs.as_slice() {
         put_definition(alloc, &mut text, def)?;
     }

@@ -3,7 +3,7 @@
 
 mod changes;
 mod collections;
-mod texts;
+mod levels;
 
 use crate::collections::Collections;
 use anyhow::Result;

@@ -2,7 +2,8 @@ use Rattle.std.proofs.Common.{◌∙◌, ◌++◌, List, ℕ, ap, append_assoc, 
 use Rattle.std.specs.Prelude.{codes}
 use Rattle.std.specs.Fmt.{decimal}
 use Rattle.json_text.specs.Reading.{tree_of_text}
-use Rattle.json_rows.specs.Rows.{Names, with_length}
+use Rattle.row_script.specs.Names.{Names}
+use Rattle.json_rows.specs.Rows.{with_length}
 use Rattle.json_rows.proofs.metadata.written.Goals as goal
 
 pub returns : goal.returns

@@ -1,7 +1,8 @@
 use Rattle.std.proofs.Common.{◌≡◌, ◌∙◌, ◌%◌, List, ℕ, ap, rules, subst}
 use Rattle.std.specs.Prelude.{Ok}
 use Rattle.std.proofs.lemmas.Result.{IfOk-weaker}
-use Rattle.json_rows.specs.Rows.{number_of, value_in}
+use Rattle.row_script.specs.Texts.{number_of}
+use Rattle.json_rows.specs.Rows.{value_in}
 use Rattle.json_rows.proofs.values.decoded.Goals as goal
 
 pub returns : goal.returns

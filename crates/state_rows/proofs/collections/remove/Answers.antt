@@ -1,6 +1,6 @@
 use Rattle.std.proofs.Common.{ap, ◌∙◌}
 use Rattle.std.proofs.lemmas.Result.{IfOk-weaker}
-use Rattle.state_rows.specs.Rows.{truth_text}
+use Rattle.row_script.specs.Texts.{truth_text}
 use Rattle.state_rows.proofs.collections.remove.Goals as goal
 
 pub returns : goal.returns
