@@ -1,13 +1,12 @@
 -- What rows show of patterns, of an archive's parts and of the ring.
 use Rattle.std.specs.Prelude.{◌≡◌, ◌↔◌, ◌⊎◌, ◌++◌, ◌==◌, ◌+◌, ◌-◌, ℕ, ℤ, pos, List, [], ◌∷◌, Bool, Option, None, Some, Result, Ok, Err, IsTrue, bytes_eq, codes, if◌then◌else◌, length, nat_lt, option_map, replicate, slice_get, take}
 use Rattle.std.specs.Fmt.{decimal, signed_decimal}
-use Rattle.std.specs.Str.Parse.{digits_value, without_leading_plus}
 use Rattle.hex.specs.Hex.{decode_of, encode_lower}
 use Rattle.bson_value.specs.declared.namespace.NsName.{NsName}
 use Rattle.bson_value.specs.declared.value.Ts.{Ts}
 use Rattle.bson_value.specs.declared.value.Value.{Value}
 use Rattle.bson_check.specs.declared.fault.BsonFault.{BsonFault}
-use Rattle.bson_check.specs.Reading.{document_of}
+use Rattle.row_script.specs.Names.{ns_text}
 use Rattle.ns_patterns.specs.Literals.{Literals}
 use Rattle.ns_patterns.specs.Matches.{Matches, Renamed}
 use Rattle.archive_format.specs.Crc.{crc_start, crc_on}
@@ -24,10 +23,6 @@ TellsWhether P answer = (is_so : Bool) × (IsTrue is_so ↔ P) × (answer ≡ (i
 
 abbrev pub truth_text : Bool → List ℕ
 truth_text is_so = if is_so then codes "true" else codes "false"
-
--- the number that a word writes
-abbrev pub number_of : List ℕ → ℕ
-number_of word = digits_value 10 (without_leading_plus word)
 
 -- ---- patterns
 
@@ -104,9 +99,6 @@ abbrev pub shape_answer : Option ShapeFault → List ℕ
 shape_answer None = codes "ok"
 shape_answer (Some f) = shape_text f
 
-abbrev pub ns_text : NsName → List ℕ
-ns_text ns = ns.db ++ codes "." ++ ns.coll
-
 abbrev pub meta_answer : Shaped Metadata → List ℕ
 meta_answer (Ok m) = ns_text m.ns ++ codes " " ++ m.text
 meta_answer (Err f) = shape_text f
@@ -126,13 +118,6 @@ head_answer (Err f) = shape_word f
 abbrev pub head_answer_in : Result (List (List ℕ × Value)) BsonFault → List ℕ
 head_answer_in (Err f) = codes "no document"
 head_answer_in (Ok fields) = head_answer (ns_head_of fields)
-
-abbrev pub Document : Type 0
-Document = List (List ℕ × Value)
-
--- hexadecimal digits write the bytes of a document
-unfoldable pub Write : List ℕ → Document → Type 0
-Write digits doc = (bytes : List ℕ) × (decode_of digits ≡ Ok bytes) × (document_of 16793600 200 bytes ≡ Ok doc)
 
 -- ---- the ring
 

@@ -1,19 +1,19 @@
 //! Preludes of the versions 0.0.0, and their documents.
 ghost use Rattle.std.specs.Prelude.{◌≡◌, [], ◌∷◌, ◌++◌, Option, Ok, IfOk, OnOk, codes, string_bytes};
+ghost use Rattle.row_script.specs.Documents.{Document};
+ghost use Rattle.row_script.specs.Names.{ns_text};
 ghost use Rattle.row_script.specs.Rows.{before_blank};
-ghost use Rattle.bson_check.specs.Reading.{document_of};
+ghost use Rattle.row_script.specs.Spellings.{Write};
 ghost use Rattle.archive_format.specs.Shapes.{ShapeFault, header_fault, meta_of};
 ghost use Rattle.archive_format.specs.Written.{prelude_text};
 ghost use Rattle.archive_prelude.specs.Faults.{IsPreludeFault};
-ghost use Rattle.archive_rows.specs.Rows.{Document, TellsWritten, Write, Writes, meta_answer, metas_named, ns_text, own_header, own_metadata, own_namespace, prelude_over, shape_answer};
+ghost use Rattle.archive_rows.specs.Rows.{TellsWritten, Writes, meta_answer, metas_named, own_header, own_metadata, own_namespace, prelude_over, shape_answer};
 
 use crate::texts::{failing, own_namespace, written};
 use anyhow::Result;
 use archive_prelude::{Meta, Prelude, PreludeFault, read_header, read_meta, write};
-use bson_check::MAX_DOCUMENT_BYTES;
-use bson_core::decode;
 use bson_value::{Doc, List, NsName, Text};
-use row_script::{answer, bytes, refused, words};
+use row_script::{answer, spellings, words};
 use std::alloc::{AllocError, Global};
 use tool_io::{Fault, MemSink};
 
@@ -84,24 +84,6 @@ pub fn prelude(alloc: Global, text: &str) -> Result<String>
     written(alloc, answer, &sink)
 }
 
-fn decoded(alloc: Global, bytes: &[u8]) -> Result<Doc>
-    ensures { IfOk result (λ doc. document_of 16793600 200 bytes.now ≡ Ok doc) }
-{
-    match decode(alloc, bytes, MAX_DOCUMENT_BYTES, 200) {
-        Ok(doc) => Ok(doc),
-        Err(_) => refused("no document"),
-    }
-}
-
-// The document that the digits write.
-#[tactic(auto, unfolding(crate::specs::Rows::Write))]
-fn document(alloc: Global, text: &str) -> Result<Doc>
-    ensures { IfOk result (λ doc. Write text.now doc) }
-{
-    let bytes = bytes(alloc, text)?;
-    decoded(alloc, &bytes)
-}
-
 // Why a document has another shape.
 fn fault_text(alloc: Global, fault: &PreludeFault) -> Result<String>
     ensures told { IfOk result (λ answer. (shape : Option ShapeFault) → IsPreludeFault fault.now shape → string_bytes answer ≡ shape_answer shape) }
@@ -131,7 +113,7 @@ fn header_of(alloc: Global, doc: &Doc) -> Result<String>
 pub fn header(alloc: Global, text: &str) -> Result<String>
     ensures { IfOk result (λ answer. (doc : Document) × Write text.now doc × (string_bytes answer ≡ shape_answer (header_fault doc))) }
 {
-    let doc = document(alloc, text)?;
+    let doc = spellings::written(alloc, text)?;
     header_of(alloc, &doc)
 }
 
@@ -154,6 +136,6 @@ fn metadata_of(alloc: Global, doc: &Doc) -> Result<String>
 pub fn metadata(alloc: Global, text: &str) -> Result<String>
     ensures { IfOk result (λ answer. (doc : Document) × Write text.now doc × (string_bytes answer ≡ meta_answer (meta_of doc))) }
 {
-    let doc = document(alloc, text)?;
+    let doc = spellings::written(alloc, text)?;
     metadata_of(alloc, &doc)
 }

@@ -3,8 +3,9 @@ ghost use Rattle.std.specs.Prelude.{◌≡◌, ◌↔◌, ◌++◌, ℕ, List, [
 ghost use Rattle.std.specs.Fmt.{decimal};
 ghost use Rattle.hex.specs.Hex.{decode_of};
 ghost use Rattle.row_script.specs.Rows.{before_blank, behind_blank};
+ghost use Rattle.row_script.specs.Texts.{number_of};
 ghost use Rattle.capped_oplog.specs.Ring.{IsLater, IsPlaceOf, after_pushes, trimmed_down};
-ghost use Rattle.archive_rows.specs.Rows.{ends_text, entries_from, entry_text, falls_out, number_of, place_text, stamp, stamp_of, stamp_text, truth_text, with_entry};
+ghost use Rattle.archive_rows.specs.Rows.{ends_text, entries_from, entry_text, falls_out, place_text, stamp, stamp_of, stamp_text, truth_text, with_entry};
 
 use crate::texts::numbers;
 use anyhow::Result;

@@ -1,14 +1,11 @@
--- The documents that rows write, and the texts of what is answered.
-use Rattle.std.specs.Prelude.{◌≡◌, ◌++◌, ℕ, List, Some, Ok, codes, if◌then◌else◌}
+-- The texts of what is answered.
+use Rattle.std.specs.Prelude.{◌≡◌, ◌++◌, ℕ, List, Some, codes, if◌then◌else◌}
 use Rattle.std.specs.Fmt.{decimal}
 use Rattle.std.specs.List.{flat_map}
 use Rattle.containers.specs.Entries.{lookup}
-use Rattle.json_tree.specs.declared.tree.Tree.{Tree}
-use Rattle.json_text.specs.Print.{text_of}
-use Rattle.json_text.specs.Reading.{tree_of_text}
-use Rattle.extjson.specs.Trees.{tree_of}
-use Rattle.extjson.specs.Values.{value_of}
-use Rattle.bson_value.specs.declared.namespace.NsName.{NsName}
+use Rattle.row_script.specs.Documents.{Document}
+use Rattle.row_script.specs.Jsons.{value_text}
+use Rattle.row_script.specs.Names.{ns_text}
 use Rattle.bson_value.specs.declared.value.Value.{Value}
 use Rattle.bson_value.specs.declared.value.Value.TheVariants.{Object}
 use Rattle.doc_path.specs.declared.parts.Part.{Part}
@@ -26,20 +23,6 @@ use Rattle.update_model.specs.declared.fault.OpsFault.{OpsFault}
 use Rattle.update_model.specs.declared.fault.OpsFault.TheVariants as ops_faults
 use Rattle.update_model.specs.declared.fault.UpdateFault.{UpdateFault}
 use Rattle.update_model.specs.declared.fault.UpdateFault.TheVariants as update_faults
-
-abbrev pub Document : Type 0
-Document = List (List ℕ × Value)
-
--- a text writes a value
-unfoldable pub WriteValue : List ℕ → Value → Type 0
-WriteValue text value = (tree : Tree) × (tree_of_text text ≡ Ok tree) × (value_of tree ≡ Ok value)
-
--- a text writes a document
-abbrev pub Write : List ℕ → Document → Type 0
-Write text doc = WriteValue text (Object doc)
-
-unfoldable pub value_text : Value → List ℕ
-value_text v = text_of (tree_of v)
 
 abbrev pub document_json : Document → List ℕ
 document_json doc = value_text (Object doc)
@@ -60,9 +43,6 @@ touch_text (Resize place len) = codes " resize " ++ place_text place ++ codes " 
 abbrev pub touches_text : List Touch → List ℕ
 touches_text touches = flat_map touch_text touches
 
-abbrev pub namespace_text : NsName → List ℕ
-namespace_text ns = ns.db ++ codes "." ++ ns.coll
-
 abbrev pub form_text : Form → List ℕ
 form_text V1 = codes "delta1 "
 form_text V2 = codes "delta2 "
@@ -82,7 +62,7 @@ action_text_at Action-F.DropColl = codes "drop"
 action_text_at Action-F.DropDb = codes "drop database"
 action_text_at (Action-F.AddIndexes defs) = codes "indexes" ++ flat_map definition_text defs
 action_text_at (Action-F.DropIndex name) = codes "drop index " ++ name
-action_text_at (Action-F.Rename from to) = codes "rename " ++ namespace_text from ++ codes " " ++ namespace_text to
+action_text_at (Action-F.Rename from to) = codes "rename " ++ ns_text from ++ codes " " ++ ns_text to
 action_text_at (Action-F.Group entries) = codes "group"
 action_text_at (Action-F.Other name) = codes "other \"" ++ name ++ codes "\""
 
@@ -95,7 +75,7 @@ Records form u action = (id : Value) × (lookup (codes "_id") u.doc ≡ Some id)
 
 -- an entry, of a group without its items
 abbrev pub item_text : Entry → List ℕ
-item_text e = decimal e.ts.secs ++ codes ":" ++ decimal e.ts.inc ++ codes " " ++ namespace_text e.ns ++ codes " " ++ action_text e.action
+item_text e = decimal e.ts.secs ++ codes ":" ++ decimal e.ts.inc ++ codes " " ++ ns_text e.ns ++ codes " " ++ action_text e.action
 
 abbrev pub ops_fault_word : OpsFault → List ℕ
 ops_fault_word ops_faults.NoMemory = codes "NoMemory"

@@ -6,13 +6,13 @@ ghost use Rattle.entry_model.specs.Spelling.{entry_fields};
 
 use crate::faults::entry_fault;
 use crate::shown::put_entry;
-use crate::texts::document;
 use anyhow::Result;
 use bson_encode::encode;
 use bson_value::{Doc, Ts};
 use entry_model::{Entry, entry_reads_back, written_is_document, written_is_read};
 use entry_writer::write;
 use oplog_entry::{head, read};
+use row_script::jsons::document;
 use row_script::{answer, truth};
 use std::alloc::Global;
 

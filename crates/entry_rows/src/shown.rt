@@ -2,7 +2,9 @@
 ghost use Rattle.std.specs.Prelude.{◌≡◌, ◌++◌, OnOk, codes, if◌then◌else◌, string_bytes};
 ghost use Rattle.std.specs.Fmt.{decimal};
 ghost use Rattle.std.specs.List.{flat_map};
-ghost use Rattle.entry_rows.specs.Rows.{action_text, definition_text, document_json, form_text, item_text, namespace_text, place_text, touch_text, touches_text, value_text};
+ghost use Rattle.row_script.specs.Jsons.{value_text};
+ghost use Rattle.row_script.specs.Names.{ns_text};
+ghost use Rattle.entry_rows.specs.Rows.{action_text, definition_text, document_json, form_text, item_text, place_text, touch_text, touches_text};
 
 use crate::texts::{put_document, put_value};
 use anyhow::Result;
@@ -107,13 +109,13 @@ fn put_indexes(alloc: Global, out: &mut String, defs: &[Doc]) -> Result<()>
 }
 
 fn put_namespace(out: &mut String, ns: &NsName) -> Result<(), AllocError>
-    ensures { OnOk result (string_bytes out.new ≡ string_bytes out.old ++ namespace_text ns.now) }
+    ensures { OnOk result (string_bytes out.new ≡ string_bytes out.old ++ ns_text ns.now) }
 {
     write!(out, "{}.{}", ns.db.as_str(), ns.coll.as_str())
 }
 
 fn put_renaming(out: &mut String, from: &NsName, to: &NsName) -> Result<()>
-    ensures { OnOk result (string_bytes out.new ≡ string_bytes out.old ++ codes "rename " ++ namespace_text from.now ++ codes " " ++ namespace_text to.now) }
+    ensures { OnOk result (string_bytes out.new ≡ string_bytes out.old ++ codes "rename " ++ ns_text from.now ++ codes " " ++ ns_text to.now) }
 {
     out.push_str("rename ")?;
     put_namespace(out, from)?;

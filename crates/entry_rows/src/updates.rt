@@ -3,15 +3,18 @@ ghost use Rattle.std.specs.Prelude.{◌≡◌, ◌++◌, None, IfOk, string_byte
 ghost use Rattle.std.specs.Fmt.{decimal};
 ghost use Rattle.entry_model.specs.declared.entry.Action.{Action as Actions};
 ghost use Rattle.update_model.specs.Reading.{operators, ops_fault};
-ghost use Rattle.entry_rows.specs.Rows.{Document, Records, Write, action_text, document_json, touches_text};
+ghost use Rattle.row_script.specs.Documents.{Document};
+ghost use Rattle.row_script.specs.Jsons.{Write};
+ghost use Rattle.entry_rows.specs.Rows.{Records, action_text, document_json, touches_text};
 
 use crate::faults::{ops_fault, update_fault};
 use crate::shown::{put_action, put_touches};
-use crate::texts::{document, put_document};
+use crate::texts::put_document;
 use anyhow::Result;
 use bson_value::Doc;
 use doc_path::Form;
 use entry_model::Action;
+use row_script::jsons::document;
 use row_script::{answer, refused, words};
 use std::alloc::Global;
 use update_action::update_action;

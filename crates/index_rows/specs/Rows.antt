@@ -7,12 +7,9 @@ use Rattle.std.specs.Str.Pattern.{FindsText, SplitsAroundMatch}
 use Rattle.json_tree.specs.declared.tree.Tree.{Tree}
 use Rattle.json_text.specs.Print.{text_of}
 use Rattle.json_text.specs.Reading.{tree_of_text}
-use Rattle.extjson.specs.Trees.{tree_of}
-use Rattle.extjson.specs.Values.{value_of}
-use Rattle.bson_value.specs.Namespace.{IsSplit}
+use Rattle.row_script.specs.Jsons.{value_text}
 use Rattle.bson_value.specs.declared.namespace.NsName.{NsName}
 use Rattle.bson_value.specs.declared.value.Value.{Value}
-use Rattle.bson_value.specs.declared.value.Value.TheVariants.{Object}
 use Rattle.bson_encode.specs.Key.{key_of}
 use Rattle.doc_path.specs.Paths.{parts_of}
 use Rattle.coll_state.specs.Rows.{Document, Rows, state_of}
@@ -29,18 +26,7 @@ use Rattle.index_build.specs.declared.fault.CountFault.{CountFault}
 use Rattle.index_build.specs.declared.fault.CountFault.TheVariants as count_faults
 use Rattle.index_build.specs.declared.index_fault.IndexFault.{IndexFault}
 
-abbrev pub truth_text : Bool → List ℕ
-truth_text is_so = if is_so then codes "yes" else codes "no"
-
 -- ---- what rows write
-
--- a text names a collection
-abbrev pub Names : List ℕ → NsName → Type 0
-Names text ns = IsSplit text ns.db ns.coll
-
--- a text writes a document
-unfoldable pub Write : List ℕ → Document → Type 0
-Write text doc = (tree : Tree) × (tree_of_text text ≡ Ok tree) × (value_of tree ≡ Ok (Object doc))
 
 -- a text writes a definition, whose normal form this is
 unfoldable pub WriteDefinition : List ℕ → Tree → Type 0
@@ -65,10 +51,6 @@ AreBoth text first second =
     ⊎ (FindsText mark text None × (first ≡ text) × (second ≡ text))
 
 -- ---- values and numbers
-
--- a value in Extended JSON
-unfoldable pub value_text : Value → List ℕ
-value_text v = text_of (tree_of v)
 
 abbrev pub pair_text : Value → Value → List ℕ
 pair_text a b = value_text a ++ codes " " ++ value_text b

@@ -1,5 +1,7 @@
 //! Numbers of pairs in states, and their first faults.
 ghost use Rattle.std.specs.Prelude.{◌≡◌, Ok, Option, IfOk, OnOk, is_some, true, string_bytes};
+ghost use Rattle.row_script.specs.Jsons.{Write};
+ghost use Rattle.row_script.specs.Names.{Names};
 ghost use Rattle.row_script.specs.Rows.{before_blank, behind_blank};
 ghost use Rattle.json_tree.specs.declared.tree.Tree.{Tree as Trees};
 ghost use Rattle.json_text.specs.Reading.{tree_of_text};
@@ -8,9 +10,9 @@ ghost use Rattle.coll_state.specs.Changes.{no_rows, put, create, add_index, drop
 ghost use Rattle.coll_state.specs.Rows.{Document};
 ghost use Rattle.index_build.specs.Faults.{IsCountFault};
 ghost use Rattle.index_build.specs.declared.fault.CountFault.{CountFault as Faults};
-ghost use Rattle.index_rows.specs.Rows.{Names, Write, WriteDefinition, fault_in, fault_text, number_in, number_text, place_text};
+ghost use Rattle.index_rows.specs.Rows.{WriteDefinition, fault_in, fault_text, number_in, number_text, place_text};
 
-use crate::texts::{definition, document, namespace, shown, shown_pair};
+use crate::texts::{definition, shown_pair};
 use anyhow::Result;
 use bson_value::{Doc, NsName, Text};
 use bson_view::Held;
@@ -18,7 +20,8 @@ use coll_state::{COUNT_LIMIT, State};
 use index_build::{CountFault, count_all, count_definitions};
 use json_text::parse;
 use json_tree::Tree;
-use row_script::{answer, refused, words};
+use row_script::jsons::{document, shown};
+use row_script::{answer, namespace, refused, words};
 use std::alloc::{AllocError, Global};
 
 /// The collections of which rows ask.

@@ -6,12 +6,13 @@ ghost use Rattle.json_text.specs.Reading.{tree_of_text};
 ghost use Rattle.index_keys.specs.Definition.{normal, plan_of};
 ghost use Rattle.index_rows.specs.Rows.{WriteDefinition, form_text, kind_text, plan_text};
 
-use crate::texts::{definition, text_of};
+use crate::texts::definition;
 use anyhow::Result;
 use index_keys::{Plan, Planned, normal, normal_once};
 use json_text::parse;
 use json_tree::Tree;
 use row_script::answer;
+use row_script::jsons::text_of;
 use std::alloc::{AllocError, Global};
 
 // Whether a form is its own normal form.

@@ -1,6 +1,7 @@
 //! An index that is kept up as documents come and go.
 ghost use Rattle.std.specs.Prelude.{◌≡◌, [], Option, Some, None, bytes_eq, codes, false, IfOk, IfErr, OnOk, OnErr, option_map, string_bytes};
 ghost use Rattle.std.specs.FinMap as map;
+ghost use Rattle.row_script.specs.Jsons.{Write};
 ghost use Rattle.row_script.specs.Rows.{before_blank, behind_blank};
 ghost use Rattle.bson_value.specs.declared.value.Value.{Value as Datum};
 ghost use Rattle.bson_encode.specs.Key.{key_of};
@@ -9,14 +10,15 @@ ghost use Rattle.coll_state.specs.Rows.{Document, id_of};
 ghost use Rattle.index_keys.specs.Texts.{key_texts};
 ghost use Rattle.index_build.specs.Entries.{put_or_removed};
 ghost use Rattle.index_build.specs.Owned.{IsIndexFault, Refusal, refusal_if};
-ghost use Rattle.index_rows.specs.Rows.{Answers, IsAnswer, IsCalled, TellsRefusal, Write, plan_over};
+ghost use Rattle.index_rows.specs.Rows.{Answers, IsAnswer, IsCalled, TellsRefusal, plan_over};
 
-use crate::texts::{document, plan, shown, shown_pair};
+use crate::texts::{plan, shown_pair};
 use anyhow::Result;
 use bson_value::{Doc, List, Value};
 use bson_view::Held;
 use index_build::{Index, IndexFault};
 use index_keys::Plan;
+use row_script::jsons::{document, shown};
 use row_script::{answer, refused, words};
 use std::alloc::{AllocError, Global};
 

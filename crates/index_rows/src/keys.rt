@@ -1,6 +1,8 @@
 //! Keys of documents, of both kinds of documents that are held.
 ghost use Rattle.std.specs.Prelude.{◌≡◌, ◌↔◌, ◌<◌, ◌^◌, ℕ, List, Bool, Option, None, false, bytes_eq, codes, length, IfOk, IsTrue, OnOk, string_bytes};
+ghost use Rattle.row_script.specs.Jsons.{Write};
 ghost use Rattle.row_script.specs.Rows.{before_blank, behind_blank};
+ghost use Rattle.row_script.specs.Texts.{truth_text};
 ghost use Rattle.coll_state.specs.Rows.{Document};
 ghost use Rattle.std.specs.Fmt.{decimal};
 ghost use Rattle.bson_view.specs.Meaning.{document_in};
@@ -8,14 +10,15 @@ ghost use Rattle.index_keys.specs.Branches.{Path as Branch};
 ghost use Rattle.index_keys.specs.Faults.{IsKeyFault};
 ghost use Rattle.index_keys.specs.Keys.{parallel};
 ghost use Rattle.index_keys.specs.Texts.{key_texts};
-ghost use Rattle.index_rows.specs.Rows.{AreBoth, Write, count_text, keys_text, plan_over, truth_text};
+ghost use Rattle.index_rows.specs.Rows.{AreBoth, count_text, keys_text, plan_over};
 
-use crate::texts::{document, plan};
+use crate::texts::plan;
 use anyhow::Result;
 use bson_encode::encode;
 use bson_value::Doc;
 use bson_view::{Held, View, one_document};
 use index_keys::{KeyFault, Keys, Plan, keys};
+use row_script::jsons::document;
 use row_script::{answer, refused, truth, words};
 use std::alloc::{AllocError, Global};
 

@@ -1,49 +1,18 @@
-//! Documents, definitions, plans and namespaces from texts, and values as texts.
+//! Definitions and plans from texts, and pairs of values as texts.
 ghost use Rattle.std.specs.Prelude.{◌≡◌, [], ◌∷◌, ◌++◌, All, None, Some, Ok, IfOk, OnOk, map as each, string_bytes};
-ghost use Rattle.bson_value.specs.declared.value.Value.TheVariants.{Object};
-ghost use Rattle.extjson.specs.Values.{value_of};
 ghost use Rattle.index_keys.specs.Definition.{normal};
-ghost use Rattle.json_text.specs.Print.{text_of};
 ghost use Rattle.doc_path.specs.Paths.{parts_of, path_fault};
-ghost use Rattle.index_rows.specs.Rows.{Names, Write, WriteDefinition, fields_of, pair_text, plan_over, value_text};
+ghost use Rattle.index_rows.specs.Rows.{WriteDefinition, fields_of, pair_text, plan_over};
 
 use anyhow::Result;
-use bson_value::{Doc, List, NsName, Value};
+use bson_value::{List, Value};
 use doc_path::Path;
-use extjson::{tree_of, value_of};
 use index_keys::{Plan, normal};
-use json_text::{parse, print};
+use json_text::parse;
 use json_tree::Tree;
+use row_script::jsons::shown;
 use row_script::refused;
 use std::alloc::Global;
-
-/// The collection that the text names.
-pub fn namespace(alloc: Global, text: &str) -> Result<NsName>
-    ensures { IfOk result (λ ns. Names text.now ns) }
-{
-    match NsName::split(alloc, text)? {
-        Some(ns) => Ok(ns),
-        None => refused("no namespace"),
-    }
-}
-
-fn document_of(alloc: Global, tree: &Tree) -> Result<Doc>
-    ensures { IfOk result (λ doc. value_of tree.now ≡ Ok (Object doc)) }
-{
-    match value_of(alloc, tree)? {
-        Value::Object(doc) => Ok(doc),
-        _ => refused("no document"),
-    }
-}
-
-/// The document that the text writes.
-#[tactic(auto, unfolding(crate::specs::Rows::Write))]
-pub fn document(alloc: Global, text: &str) -> Result<Doc>
-    ensures { IfOk result (λ doc. Write text.now doc) }
-{
-    let tree = parse(alloc, text)?;
-    document_of(alloc, &tree)
-}
 
 fn normal_of(alloc: Global, tree: &Tree) -> Result<Tree>
     ensures { IfOk result (λ def. normal tree.now ≡ Some def) }
@@ -61,23 +30,6 @@ pub fn definition(alloc: Global, text: &str) -> Result<Tree>
 {
     let tree = parse(alloc, text)?;
     normal_of(alloc, &tree)
-}
-
-/// The text of a tree.
-pub fn text_of(alloc: Global, tree: &Tree) -> Result<String>
-    ensures { IfOk result (λ text. string_bytes text ≡ text_of tree.now) }
-{
-    let text = print(alloc, tree)?;
-    Ok(text.into_string()?)
-}
-
-/// The value as JSON.
-#[tactic(auto, unfolding(crate::specs::Rows::value_text))]
-pub fn shown(alloc: Global, value: &Value) -> Result<String>
-    ensures { IfOk result (λ text. string_bytes text ≡ value_text value.now) }
-{
-    let tree = tree_of(alloc, value)?;
-    text_of(alloc, &tree)
 }
 
 /// Two values as JSON.

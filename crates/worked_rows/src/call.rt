@@ -1,6 +1,6 @@
 //! A call of the program over memory.
+use row_script::ends::{sink, source};
 use std::alloc::{AllocError, Global};
-use tool_io::{MemSink, MemSource};
 use tools_cli::tools;
 
 /// An end of a call.
@@ -26,33 +26,12 @@ pub struct Answer {
     pub report: Vec<u8>,
 }
 
-// The calls of an end that fail.
-fn failing(alloc: Global, end: End, failure: Option<Failure>) -> Result<Vec<u64>, AllocError> {
-    let mut calls = Vec::new(alloc);
-    if let Some(failure) = failure {
-        if failure.end == end {
-            calls.push(failure.call)?;
-        }
+// The call of an end that fails, if there is one.
+fn failing(end: End, failure: Option<Failure>) -> Option<u64> {
+    match failure {
+        Some(failure) if failure.end == end => Some(failure.call),
+        _ => None,
     }
-    Ok(calls)
-}
-
-// An input of these bytes, which come in pieces of so many, at least one.
-fn source(
-    alloc: Global,
-    bytes: &[u8],
-    piece: usize,
-    failure: Option<Failure>,
-) -> Result<MemSource, AllocError> {
-    let fails = failing(alloc, End::Input, failure)?;
-    let pieces = vec![in alloc; piece.max(1)]?;
-    let bytes = bytes.to_vec(alloc)?;
-    Ok(MemSource::new(bytes, pieces, fails))
-}
-
-fn sink(alloc: Global, end: End, failure: Option<Failure>) -> Result<MemSink, AllocError> {
-    let fails = failing(alloc, end, failure)?;
-    Ok(MemSink::new(alloc, fails))
 }
 
 fn answer_of(
@@ -78,9 +57,9 @@ pub fn call(
     piece: usize,
     failure: Option<Failure>,
 ) -> Result<Answer, AllocError> {
-    let mut source = source(alloc, input, piece, failure)?;
-    let mut output = sink(alloc, End::Output, failure)?;
-    let mut report = sink(alloc, End::Report, failure)?;
+    let mut source = source(alloc, input, piece, failing(End::Input, failure))?;
+    let mut output = sink(alloc, failing(End::Output, failure))?;
+    let mut report = sink(alloc, failing(End::Report, failure))?;
     let status = tools(alloc, words, &mut source, &mut output, &mut report);
     answer_of(alloc, status, output.written(), report.written())
 }

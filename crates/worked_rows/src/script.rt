@@ -15,6 +15,7 @@
 use crate::call::{Answer, End, Failure, call};
 use crate::wanted::Wanted;
 use anyhow::bail;
+use row_script::all_words;
 use schedule_text::drill;
 use std::alloc::{AllocError, Global};
 use std::io::{self, Write};
@@ -46,15 +47,6 @@ fn end_of(name: &str) -> Option<End> {
     }
 }
 
-fn words_of(alloc: Global, text: &str) -> Result<Vec<String>, AllocError> {
-    let mut words = Vec::new(alloc);
-    for word in text.split(' ') {
-        let word = String::from_str(alloc, word)?;
-        words.push(word)?;
-    }
-    Ok(words)
-}
-
 fn put_line(bytes: &mut Vec<u8>, text: &str) -> Result<(), AllocError> {
     bytes.extend_from_slice(text.as_bytes())?;
     bytes.push(b'\n')?;
@@ -63,7 +55,7 @@ fn put_line(bytes: &mut Vec<u8>, text: &str) -> Result<(), AllocError> {
 
 // The bytes that these digits write.
 fn put_bytes(alloc: Global, bytes: &mut Vec<u8>, digits: &str) -> anyhow::Result<()> {
-    let more = hex::decode(alloc, digits)?;
+    let more = row_script::bytes(alloc, digits)?;
     bytes.extend_from_slice(&more)?;
     Ok(())
 }
@@ -215,7 +207,7 @@ impl Script {
             }
             "run" => {
                 self.settle(alloc, out)?;
-                self.words = Some(words_of(alloc, text)?);
+                self.words = Some(all_words(alloc, text)?);
             }
             "pipe" => {
                 self.settle(alloc, out)?;
