@@ -1,16 +1,18 @@
 -- Facts of documents: the value of a field is spelled within the document; without a name, the name is absent.
 use Rattle.std.proofs.Common.{◌≡◌, ℕ, ◌+◌, ◌≤◌, Bool, true, false, List, [], ◌∷◌, ◌++◌, length, refl, sym, ap, ◌∙◌, subst, arith, length-append, Option, Some, None}
-use Rattle.std.specs.Prelude.{if◌then◌else◌, IsTrue, ◌↔◌, ◌&&◌, nat_le}
+use Rattle.std.specs.Prelude.{slice_get, if◌then◌else◌, IsTrue, ◌↔◌, ◌&&◌, nat_le}
 use Rattle.std.proofs.lemmas.Bool.{le-leb, leb-true}
 use Rattle.std.specs.Str.{bytes_eq}
 use Rattle.std.proofs.lemmas.Slice.Eq.{bytes_eq-Decides}
-use Rattle.containers.specs.Entries.{lookup, without, IsAbsent, names_of}
+use Rattle.containers.specs.Entries.{lookup, without, IsAbsent, AreDistinct, names_of}
 use Rattle.bson_value.specs.declared.value.Value.{Value}
 use Rattle.bson_value.specs.Spelling.{spelling, spelled, element, elements_of, document_text, count_bytes}
 use Rattle.bson_value.specs.Levels.{levels_of}
 use Rattle.bson_value.specs.Size.{Fits}
 use Rattle.coll_state.specs.Rows.{Document, id_of}
-use Rattle.history_model.specs.Documents.{is_good_id, is_good_document}
+use Rattle.containers.proofs.Entries.{without-absent}
+use Rattle.doc_path.specs.Played.{id_name}
+use Rattle.history_model.specs.Documents.{id_first, is_good_id, is_good_document}
 
 within_elements : (name : List ℕ) (d : Document) (v : Value) → lookup name d ≡ Some v → length (spelled v) ≤ length (elements_of d)
 within_elements name [] v h = cc
@@ -35,6 +37,17 @@ absent_without n (e ∷ es) = by (bytes_eq e.0 n) refl (absent_without n es)
     by : (b : Bool) → bytes_eq e.0 n ≡ b → IsAbsent n (names_of (without n es)) → IsAbsent n (names_of (if b then without n es else e ∷ without n es))
     by true f h = h
     by false f h = ((λ p. (let g = (bytes_eq-Decides e.0 n).1 (sym p) in cc)), h)
+
+-- one that begins with its `_id`
+pub first_alone : (n : List ℕ) (v : Value) (es : Document) → n ≡ id_name → IsAbsent n (names_of es) → id_first ((n, v) ∷ es) ≡ (n, v) ∷ es
+first_alone n v es e h =
+    (let here : IsAbsent id_name (names_of es) = subst (λ (m : List ℕ). IsAbsent m (names_of es)) e h in
+    let first : id_first ((id_name, v) ∷ es) ≡ (id_name, v) ∷ es = ap (λ (l : Document). (id_name, v) ∷ l) (without-absent id_name es here) in
+    subst (λ (m : List ℕ). id_first ((m, v) ∷ es) ≡ (m, v) ∷ es) (sym e) first)
+
+pub begins : (d : Document) (e : List ℕ × Value) → AreDistinct (names_of d) → Some e ≡ slice_get d 0 → e.0 ≡ id_name → id_first d ≡ d
+begins [] e a g n = absurd cc
+begins (f ∷ es) e a g n = (let h : e ≡ f = cc in first_alone f.0 f.1 es (ap (λ (x : List ℕ × Value). x.0) (sym h) ∙ n) a.0)
 
 -- ---- a document that may be stored: its size, and its `_id`
 

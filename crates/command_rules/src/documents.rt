@@ -1,5 +1,5 @@
 //! Documents to be stored.
-ghost use Rattle.std.specs.Prelude.{◌≡◌, ◌≤◌, ◌∷◌, Some, IfOk, length};
+ghost use Rattle.std.specs.Prelude.{◌≡◌, ◌≤◌, ◌∷◌, Some, IfOk, length, true};
 ghost use Rattle.bson_value.specs.Spelling.{spelled, document_text};
 ghost use Rattle.containers.specs.Entries.{IsAbsent, names_of};
 ghost use Rattle.doc_path.specs.Played.{id_name};
@@ -67,12 +67,22 @@ fn moved_first(name: CText, id: Value, doc: Doc) -> Result<Doc, AllocError>
     Ok(doc)
 }
 
+// Whether its first field is `_id`.
+fn begins_with_id(doc: &Doc) -> bool
+    ensures { result ≡ true → id_first doc.now ≡ doc.now }
+{
+    match doc.entries().first() {
+        Some((name, _)) => name.as_str() == "_id",
+        None => false,
+    }
+}
+
 /// A copy of the document with its `_id` first.
 pub fn id_first(alloc: Global, doc: &Doc) -> Result<Doc, AllocError>
     ensures { IfOk result (λ d. d ≡ id_first doc.now) }
 {
     let mut copy = doc.copy(alloc)?;
-    if doc.get("_id").is_none() {
+    if begins_with_id(doc) || doc.get("_id").is_none() {
         return Ok(copy);
     }
     let name = id_name(alloc)?;
