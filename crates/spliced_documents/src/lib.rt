@@ -1,6 +1,7 @@
 //! Documents whose bytes are changed at one field, without being read.
 #![tactic(auto)]
 
+mod levels;
 mod pieces;
 mod splicing;
 

@@ -6,8 +6,9 @@ ghost use Rattle.bson_view.specs.Kept.{kept_bytes, kept_document};
 ghost use Rattle.bson_view.specs.Views.{document, view_bytes};
 ghost use Rattle.spliced_documents.specs.Splicing.{spliced, Fits, IsSpliced};
 
-use crate::pieces::{around, counted, field_alone};
-use bson_check::{MAX_DOCUMENT_BYTES, faultless_if_spelled};
+use crate::levels::is_shallow;
+use crate::pieces::{are_well_formed, around, counted};
+use bson_check::{MAX_LEVELS, faultless_if_spelled};
 use bson_value::{Bytes, CText, Value};
 use bson_view::{DocumentBytes, View, one_document};
 use std::alloc::{AllocError, Global};
@@ -22,16 +23,12 @@ fn spliced(
     ensures some { IfOk result (λ o. IfSome o (IsSpliced name.now value.now (view_bytes view.now) (document view.now))) }
     ensures fits { IfOk result (λ o. IsSome o ↔ Fits name.now value.now (view_bytes view.now)) }
 {
-    let Some(alone) = field_alone(alloc, name, value)? else {
-        return Ok(None);
-    };
-    let alone = alone.as_slice();
-    let element = &alone[4..alone.len() - 1];
-    let (front, rest) = around(view, name.as_str());
-    if front.len() + element.len() + rest.len() + 4 > MAX_DOCUMENT_BYTES {
+    if !is_shallow(value, MAX_LEVELS - 1) {
         return Ok(None);
     }
-    Ok(Some(counted(alloc, front, element, rest)?))
+    are_well_formed(name, value);
+    let (front, rest) = around(view, name.as_str());
+    counted(alloc, front, name, value, rest)
 }
 
 /// The document with the value in the field of this name: in its place, or else last. `None` exactly where
