@@ -1,3 +1,4 @@
+pub mod Cut
 pub mod Distinct
 pub mod Elements
 pub mod Joining

@@ -5,4 +5,4 @@ mod levels;
 mod pieces;
 mod splicing;
 
-pub use splicing::with_field;
+pub use splicing::{with_field, without_field};

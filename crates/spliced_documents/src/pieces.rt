@@ -80,3 +80,16 @@ pub(crate) fn counted(
     let _written = out.len();
     Ok(Some(Bytes::from_vec(out)))
 }
+
+/// A length that counts all of them, and the two pieces.
+pub(crate) fn joined(alloc: Global, front: &[u8], rest: &[u8]) -> Result<Bytes, AllocError>
+    requires { length front.now + length rest.now + 4 < 2 ^ 32 }
+    ensures { IfOk result (λ b. b ≡ count_bytes (length front.now + length rest.now + 4) ++ front.now ++ rest.now) }
+{
+    let len = front.len() + rest.len() + 4;
+    let mut out = Vec::with_capacity(alloc, len)?;
+    out.extend_from_slice(&(len as u32).to_le_bytes())?;
+    out.extend_from_slice(front)?;
+    out.extend_from_slice(rest)?;
+    Ok(Bytes::from_vec(out))
+}
