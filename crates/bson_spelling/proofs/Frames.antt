@@ -1,17 +1,14 @@
 -- Bytes of a document, an array or a code with a scope, which are their spelling exactly where what they hold is.
-use Rattle.std.proofs.Common.{◌≡◌, ℕ, suc, ◌+◌, ◌-◌, ◌%◌, ◌<◌, ◌≤◌, ◌^◌, List, [], ◌∷◌, ◌++◌, length, take, drop, map, refl, sym, ap, subst, ◌∙◌, append_assoc, ◌⊎◌, inl, inr, arith}
+use Rattle.std.proofs.Common.{◌≡◌, ℕ, suc, ◌+◌, ◌-◌, ◌<◌, ◌≤◌, ◌^◌, List, [], ◌∷◌, ◌++◌, length, take, drop, map, refl, sym, ap, subst, ◌∙◌, append_assoc, ◌⊎◌, inl, inr, arith}
 use Rattle.std.specs.Prelude.{◌↔◌}
-use Rattle.std.specs.Int.{w32, to_le_bytes}
 use Rattle.std.proofs.lemmas.List.{take_all, drop_at, length-append, length-drop, append_cancel_left, append_cancel_right}
-use Rattle.std.proofs.lemmas.Nat.{le_bytes_4}
 use Rattle.bson_value.specs.Levels.{largest, levels_in, levels_of}
 use Rattle.bson_value.specs.Spelling.{Typed, count_bytes, framed, counted, text_bytes, document_text, elements_of, items_of, spelled, spelling, spelling_step}
 use Rattle.bson_value.specs.declared.value.Value.{Value, out-Value, roll-Value, out-roll-Value, map-Value}
 use Rattle.bson_value.specs.declared.value.Value.TheOpen.{Value-F}
 use Rattle.bson_value.specs.WellFormed.{AreBytes}
 use Rattle.bson_value.proofs.Runs.{front_bytes, back_bytes}
-use Rattle.bson_check.specs.Spells.{IsCount, IsFrame, AreBytesOf, IsDocument, IsArray, type_byte, Spells}
-use Rattle.bson_check.proofs.Formed.{word_small}
+use Rattle.bson_check.specs.Spells.{IsFrame, AreBytesOf, IsDocument, IsArray, type_byte, Spells}
 use Rattle.bson_check.proofs.Height.{levels_at, levels_out, object_levels, code_levels}
 use Rattle.bson_encode.proofs.Grammar.{spelling_out}
 use Rattle.bson_view.specs.Meaning.{AreValue, IsLeaf, value_in}

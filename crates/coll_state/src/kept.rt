@@ -142,15 +142,23 @@ fn is_short_spelling(bytes: &DocumentBytes) -> bool
 }
 
 impl KeptDocument {
+    /// The short document of which these bytes are the spelling.
+    pub(crate) fn of_spelling(bytes: DocumentBytes) -> KeptDocument
+        requires spelling { kept_bytes bytes ≡ document_text (kept_document bytes) }
+        requires short { is_short (kept_document bytes) ≡ true }
+        ensures { result ≡ kept_document bytes }
+    {
+        KeptDocument {
+            form: Form::Spelled(bytes),
+        }
+    }
+
     /// The document that these bytes spell. They are kept as they lie where they are its spelling.
     pub(crate) fn of_bytes(alloc: Global, bytes: DocumentBytes) -> Result<KeptDocument, AllocError>
         ensures { IfOk result (λ k. k ≡ kept_document bytes) }
     {
-        let kept = is_short_spelling(&bytes);
-        if kept {
-            return Ok(KeptDocument {
-                form: Form::Spelled(bytes),
-            });
+        if is_short_spelling(&bytes) {
+            return Ok(KeptDocument::of_spelling(bytes));
         }
         let doc = decoded(alloc, &bytes)?;
         KeptDocument::of(alloc, doc)

@@ -9,9 +9,10 @@ ghost use Rattle.coll_state.specs.Changes.{no_rows, put, remove, create, describ
 ghost use Rattle.coll_state.specs.Definitions.{definition_name};
 ghost use Rattle.coll_state.specs.Documents.{documents_by_key};
 ghost use Rattle.coll_state.specs.Walks.{names_left, looks, looks_left};
-ghost use Rattle.bson_view.specs.Kept.{kept_document};
+ghost use Rattle.bson_value.specs.Spelling.{document_text};
+ghost use Rattle.bson_view.specs.Kept.{kept_bytes, kept_document};
 ghost use Rattle.coll_state.specs.ChangeAll.{AreThere, HaveIds, change_all};
-ghost use Rattle.coll_state.specs.Kept.{shown, shown_in};
+ghost use Rattle.coll_state.specs.Kept.{is_short, shown, shown_in};
 
 use crate::change::{self, Change};
 use crate::collection::Collection;
@@ -250,6 +251,26 @@ impl State {
         let key = key_in_bytes(alloc, &bytes)?;
         let document = KeptDocument::of_bytes(alloc, bytes)?;
         self.put_kept(alloc, ns, key, document)
+    }
+
+    /// The same of bytes that are the spelling of a short document, which isn't looked for again: what is told of a spelled
+    /// document that `get` answers, and of what `encode` makes.
+    pub fn put_spelling(
+        &mut self,
+        alloc: Global,
+        ns: &NsName,
+        bytes: DocumentBytes,
+    ) -> Result<(), AllocError>
+        requires id { is_some (id_of (kept_document bytes)) ≡ true }
+        requires spelling { kept_bytes bytes ≡ document_text (kept_document bytes) }
+        requires short { is_short (kept_document bytes) ≡ true }
+        requires count { self.old.count < 2 ^ 127 }
+        ensures ok { OnOk result (self.new ≡ put ns.now (kept_document bytes) self.old) }
+        ensures err { OnErr result (self.new ≡ self.old) }
+    {
+        let key = key_in_bytes(alloc, &bytes)?;
+        let spelled = KeptDocument::of_spelling(bytes);
+        self.put_kept(alloc, ns, key, spelled)
     }
 
     /// The changes one after the other, all of them or, without memory, none.

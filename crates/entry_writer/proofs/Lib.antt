@@ -6,3 +6,4 @@ pub mod PathTexts
 pub mod FirstForm
 pub mod Diffs
 pub mod Items
+pub mod Headings

@@ -8,6 +8,7 @@ ghost use Rattle.entry_writer.specs.Bodies.{plain_fields};
 
 use crate::diff::put_second_form;
 use crate::elements::{close, open, put_document, put_element, put_fields};
+use crate::heading::put_heading;
 use crate::paths::put_first_form;
 use bson_value::{CText, Doc, Fields, List, NsName, Text, Value};
 use doc_path::{Form, Touch};
@@ -64,46 +65,32 @@ fn put_nothing(alloc: Global, out: &mut Vec<u8>) -> Result<(), AllocError>
     close(out, start)
 }
 
-fn put_insert(alloc: Global, out: &mut Vec<u8>, ns: &NsName, doc: &Doc) -> Result<(), AllocError>
+fn put_insert(out: &mut Vec<u8>, ns: &NsName, doc: &Doc) -> Result<(), AllocError>
     ensures { OnOk result (out.new.items ≡ out.old.items ++ elements_of (body_fields (document_body (codes "i") ns.now doc.now) [])) }
 {
-    let text = namespace_text(alloc, ns.db.as_str(), ns.coll.as_str())?;
-    put_head(alloc, out, "i", text)?;
+    put_heading(out, b'i', ns)?;
     put_document(out, "o", doc)
 }
 
-fn put_delete(alloc: Global, out: &mut Vec<u8>, ns: &NsName, id: &Value) -> Result<(), AllocError>
+fn put_delete(out: &mut Vec<u8>, ns: &NsName, id: &Value) -> Result<(), AllocError>
     ensures { OnOk result (out.new.items ≡ out.old.items ++ elements_of (body_fields (document_body (codes "d") ns.now (id_alone id.now)) [])) }
 {
-    let text = namespace_text(alloc, ns.db.as_str(), ns.coll.as_str())?;
-    put_head(alloc, out, "d", text)?;
+    put_heading(out, b'd', ns)?;
     put_id(out, "o", id)
 }
 
 /// Appends the operation, the namespace and `o2` of an update.
-fn put_update_head(
-    alloc: Global,
-    out: &mut Vec<u8>,
-    ns: &NsName,
-    id: &Value,
-) -> Result<(), AllocError>
+fn put_update_head(out: &mut Vec<u8>, ns: &NsName, id: &Value) -> Result<(), AllocError>
     ensures { OnOk result (out.new.items ≡ out.old.items ++ elements_of ((codes "op", Str (codes "u")) ∷ (codes "ns", Str (namespace_text ns.now.db ns.now.coll)) ∷ (codes "o2", Object (id_alone id.now)) ∷ [])) }
 {
-    let text = namespace_text(alloc, ns.db.as_str(), ns.coll.as_str())?;
-    put_head(alloc, out, "u", text)?;
+    put_heading(out, b'u', ns)?;
     put_id(out, "o2", id)
 }
 
-fn put_whole(
-    alloc: Global,
-    out: &mut Vec<u8>,
-    ns: &NsName,
-    id: &Value,
-    doc: &Doc,
-) -> Result<(), AllocError>
+fn put_whole(out: &mut Vec<u8>, ns: &NsName, id: &Value, doc: &Doc) -> Result<(), AllocError>
     ensures { OnOk result (out.new.items ≡ out.old.items ++ elements_of (body_fields (update_body ns.now id.now doc.now) [])) }
 {
-    put_update_head(alloc, out, ns, id)?;
+    put_update_head(out, ns, id)?;
     put_document(out, "o", doc)
 }
 
@@ -132,7 +119,7 @@ fn put_delta(
 ) -> Result<(), AllocError>
     ensures { OnOk result (out.new.items ≡ out.old.items ++ elements_of (body_fields (update_body ns.now id.now (written form level_limit touches.now)) [])) }
 {
-    put_update_head(alloc, out, ns, id)?;
+    put_update_head(out, ns, id)?;
     open(out, "o")?;
     let start = out.len();
     put_form(alloc, out, form, touches)?;
@@ -234,9 +221,9 @@ pub(crate) fn put_plain(
 {
     match action {
         Action::Nothing => put_nothing(alloc, out),
-        Action::Put { doc } => put_insert(alloc, out, ns, doc),
-        Action::Remove { id } => put_delete(alloc, out, ns, id),
-        Action::Whole { id, doc } => put_whole(alloc, out, ns, id, doc),
+        Action::Put { doc } => put_insert(out, ns, doc),
+        Action::Remove { id } => put_delete(out, ns, id),
+        Action::Whole { id, doc } => put_whole(out, ns, id, doc),
         Action::Delta { id, form, touches } => {
             put_delta(alloc, out, ns, id, *form, touches.as_slice())
         }

@@ -1,15 +1,16 @@
 //! Entries with groups.
-ghost use Rattle.std.specs.Prelude.{◌≡◌, ◌∷◌, ◌++◌, [], codes, pos, map, OnOk, IfOk};
+ghost use Rattle.std.specs.Prelude.{◌≡◌, ◌++◌, [], codes, map, OnOk, IfOk};
 ghost use Rattle.std.specs.Fmt.{decimal};
-ghost use Rattle.bson_value.specs.declared.value.Value.{Array, Stamp, Long};
+ghost use Rattle.bson_value.specs.declared.value.Value.{Array};
 ghost use Rattle.bson_value.specs.Spelling.{spelling, element, elements_of, items_of, document_text};
-ghost use Rattle.entry_model.specs.Spelling.{command_body, body_fields, item_value, wall, entry_fields, level_limit};
+ghost use Rattle.entry_model.specs.Spelling.{command_body, body_fields, item_value, entry_fields, level_limit};
 ghost use Rattle.entry_model.specs.Touches.{written};
 ghost use Rattle.entry_writer.specs.Bodies.{whole_fields};
 
 use crate::body::{namespace_text, put_form, put_head, put_plain};
-use crate::elements::{close, open, open_array, put_element};
-use bson_value::{Bytes, NsName, Ts, Value};
+use crate::elements::{close, open, open_array};
+use crate::heading::{put_front, put_wall};
+use bson_value::{Bytes, NsName};
 use doc_path::{Form, Touch};
 use entry_model::{Action, Entry};
 use itoa::Buffer;
@@ -63,29 +64,6 @@ fn put_body(alloc: Global, out: &mut Vec<u8>, entry: &Entry) -> Result<(), Alloc
     }
 }
 
-/// The date of a second.
-fn wall(secs: u32) -> Value
-    ensures { result ≡ wall secs }
-{
-    Value::Date(i64::from(secs) * 1000)
-}
-
-/// Appends a field with a value of its own.
-fn put_own(out: &mut Vec<u8>, name: &str, value: Value) -> Result<(), AllocError>
-    ensures { OnOk result (out.new.items ≡ out.old.items ++ elements_of ((name.now, value) ∷ [])) }
-{
-    put_element(out, name, &value)
-}
-
-/// Appends the fields before the operation.
-fn put_front(out: &mut Vec<u8>, ts: Ts) -> Result<(), AllocError>
-    ensures { OnOk result (out.new.items ≡ out.old.items ++ elements_of ((codes "ts", Stamp ts) ∷ (codes "t", Long (pos 1)) ∷ (codes "v", Long (pos 2)) ∷ [])) }
-{
-    put_own(out, "ts", Value::Stamp(ts))?;
-    put_own(out, "t", Value::Long(1))?;
-    put_own(out, "v", Value::Long(2))
-}
-
 /// Most entries have no more bytes.
 const USUAL_LEN: usize = 512;
 
@@ -100,7 +78,7 @@ pub fn write(alloc: Global, entry: &Entry) -> Result<Bytes, AllocError>
     out.extend_from_slice(&[0, 0, 0, 0])?;
     put_front(&mut out, entry.ts)?;
     put_body(alloc, &mut out, entry)?;
-    put_own(&mut out, "wall", wall(entry.ts.secs))?;
+    put_wall(&mut out, entry.ts.secs)?;
     close(&mut out, 4)?;
     let bytes = Bytes::of(alloc, out.as_slice())?;
     Ok(bytes)

@@ -6,6 +6,7 @@ mod diff;
 mod edits;
 mod elements;
 mod group;
+mod heading;
 mod index;
 mod level;
 mod names;

@@ -7,6 +7,9 @@ use Rattle.std.specs.declared.cmp.Ordering.TheVariants.{Less, Equal, Greater}
 use Rattle.sorted_list.specs.Order.{AllAbove, Behind, IsOrdered, found, from, put_in, set_in, take_out}
 use Rattle.sorted_list.specs.Chunks.{joined, AreRoomy, ends_below}
 
+pub not_both : (b : Bool) → b ≡ false → b ≡ true → ⊥
+not_both b f t = cc
+
 module _ {T : Type 0} (ord : T → Ordering) where
   abbrev pub AllBelow : List T → Type 0
   AllBelow [] = ⊤
@@ -52,14 +55,8 @@ module _ {T : Type 0} (ord : T → Ordering) where
     where
       by : (w : Ordering) → ord x ≡ w → Behind ord w (y ∷ ys) → ord x ≡ Less
       by Less h b = h
-      by Equal h b = absurd (not_both (ends_below ord (y ∷ ys)) e (above_ends (y ∷ ys) b))
-        where
-          not_both : (b : Bool) → b ≡ true → b ≡ false → ⊥
-          not_both b s f = cc
-      by Greater h b = absurd (not_both (ends_below ord (y ∷ ys)) e (above_ends (y ∷ ys) b))
-        where
-          not_both : (b : Bool) → b ≡ true → b ≡ false → ⊥
-          not_both b s f = cc
+      by Equal h b = absurd (not_both (ends_below ord (y ∷ ys)) (above_ends (y ∷ ys) b) e)
+      by Greater h b = absurd (not_both (ends_below ord (y ∷ ys)) (above_ends (y ∷ ys) b) e)
 
   -- ---- behind elements that are all below
 

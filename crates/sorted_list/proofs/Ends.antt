@@ -8,7 +8,7 @@ use Rattle.std.specs.declared.cmp.Ordering.{Ordering}
 use Rattle.std.specs.declared.cmp.Ordering.TheVariants.{Less, Equal, Greater}
 use Rattle.sorted_list.specs.Order.{Behind, IsOrdered, IsGap}
 use Rattle.sorted_list.specs.Chunks.{joined, AreRoomy, last_of, side, is_below, ends_below, seat}
-use Rattle.sorted_list.proofs.Chunks.{AllEndAbove, EndInOrder, end_in_order, above_ends}
+use Rattle.sorted_list.proofs.Chunks.{not_both, AllEndAbove, EndInOrder, end_in_order, above_ends}
 
 pub last_is : {T : Type 0} (xs : List T) → slice_get xs (length xs - 1) ≡ last_of xs
 last_is [] = refl
@@ -68,9 +68,6 @@ module _ {T : Type 0} (ord : T → Ordering) where
 
   pub seat_ok : (cs : List (List T)) (at : ℕ) → IsBinarySearchResult by_end cs (Ok at) → ⊥
   seat_ok cs at is = side_not_equal (ends_below ord (slice_index_or cs at [])) (is [])
-
-  not_both : (b : Bool) → b ≡ false → b ≡ true → ⊥
-  not_both b f t = cc
 
   last_above : (cs : List (List T)) (c : List T) → AllEndAbove ord cs → last_of cs ≡ Some c → ends_below ord c ≡ false
   last_above [] c a e = cc

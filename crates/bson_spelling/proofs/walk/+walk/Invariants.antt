@@ -1,4 +1,4 @@
-use Rattle.std.proofs.Common.{◌≡◌, ℕ, ◌+◌, ◌*◌, ◌<◌, ◌^◌, length}
+use Rattle.std.proofs.Common.{◌+◌, ◌*◌, ◌<◌, ◌^◌, length}
 use Rattle.std.specs.Prelude.{◌↔◌}
 use Rattle.bson_view.specs.Parts.{AreNames, bytes_of}
 use Rattle.bson_view.specs.Views.{parts_left}

@@ -1,4 +1,4 @@
-use Rattle.std.proofs.Common.{◌≡◌, ℕ, List, ◌≤◌, sym, ap, subst, arith, refl, zero, suc, ◌-◌, ◌∙◌}
+use Rattle.std.proofs.Common.{◌≡◌, ℕ, List, ◌≤◌, subst, arith, suc, ◌-◌}
 use Rattle.std.specs.Prelude.{◌↔◌, IsTrue}
 use Rattle.bson_value.specs.Levels.{levels_of}
 use Rattle.bson_value.specs.Spelling.{document_text}
