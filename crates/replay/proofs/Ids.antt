@@ -32,7 +32,7 @@ pub put_object : (fs : List Field) (k : List ℕ) (a : Value) → put (Object fs
 unfolding put
 put_object fs k a = ap (λ (f : Value-F Value). roll-Value (put_in f k (index_of k) a)) (outs-Object fs) ∙ rolls-Object (put_field k a fs)
 
-del_object : (fs : List Field) (k : List ℕ) → del (Object fs) k ≡ Object (without k fs)
+pub del_object : (fs : List Field) (k : List ℕ) → del (Object fs) k ≡ Object (without k fs)
 unfolding del
 del_object fs k = ap (λ (f : Value-F Value). roll-Value (del_in f k (index_of k))) (outs-Object fs) ∙ rolls-Object (without k fs)
 

@@ -1,7 +1,7 @@
--- A document that is there, with one field set, and after touches, also those that stay within one field.
+-- A document that is there, with one field set or taken out, and after touches, also those that stay within one field.
 use Rattle.std.specs.Prelude.{◌≡◌, ℕ, List, [], ◌∷◌, length, map, Bool, false, ◌&&◌, nat_lt, Option, Some}
 use Rattle.std.specs.Str.{bytes_eq}
-use Rattle.containers.specs.Entries.{lookup, put}
+use Rattle.containers.specs.Entries.{lookup, put, without}
 use Rattle.bson_value.specs.declared.namespace.NsName.{NsName}
 use Rattle.bson_value.specs.declared.value.Value.{Value}
 use Rattle.bson_value.specs.declared.value.Value.TheVariants.{Object}
@@ -20,6 +20,10 @@ use Rattle.coll_state.specs.Changes.{document_at}
 abbrev pub SetsField : List ℕ → Value → Played → Type 0
 SetsField k v t = (f : Form) (d : Document) → Object (put k v d) ≡ played f t (Object d)
 
+-- a touch takes this field out of a document, in either form
+abbrev pub TakesField : List ℕ → Played → Type 0
+TakesField k t = (f : Form) (d : Document) → Object (without k d) ≡ played f t (Object d)
+
 -- the document of this `_id`
 abbrev pub IsThere : NsName → Value → Rows → Document → Type 0
 IsThere n v s d = (document_at n (key_of v) s.tables ≡ Some d) × (key_in (id_of d) ≡ key_of v)
@@ -27,6 +31,10 @@ IsThere n v s d = (document_at n (key_of v) s.tables ≡ Some d) × (key_in (id_
 -- it has the field too
 abbrev pub IsPut : NsName → Value → List ℕ → Value → Rows → Document → Type 0
 IsPut n v k a s e = (d : Document) × IsThere n v s d × (e ≡ put k a d)
+
+-- it no longer has the field
+abbrev pub IsTaken : NsName → Value → List ℕ → Rows → Document → Type 0
+IsTaken n v k s e = (d : Document) × IsThere n v s d × (e ≡ without k d)
 
 -- the touches are played on it, by the rules of the form
 abbrev pub IsPlayed : NsName → Value → Form → List Touch → Rows → Document → Type 0

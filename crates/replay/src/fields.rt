@@ -5,7 +5,7 @@ ghost use Rattle.std.specs.Str.{bytes_eq};
 ghost use Rattle.doc_path.specs.declared.parts.Part.TheVariants.{Name};
 ghost use Rattle.doc_path.specs.Played.{id_name, touch_of};
 ghost use Rattle.doc_path.specs.Touch.{Touch as Played};
-ghost use Rattle.replay.specs.Splicing.{SetsField, is_named as names_field, is_within as lies_within, stays_within as touches_within};
+ghost use Rattle.replay.specs.Splicing.{SetsField, TakesField, is_named as names_field, is_within as lies_within, stays_within as touches_within};
 
 use bson_value::{CText, Value};
 use doc_path::{Part, Place, Touch};
@@ -55,6 +55,26 @@ pub(crate) fn only_field(touches: &[Touch]) -> Option<(&CText, &Value)>
 {
     match touches {
         [touch] => field_of(touch),
+        _ => None,
+    }
+}
+
+// The name of the field of the document itself that a touch takes out, but for the `_id`.
+fn taken_by(touch: &Touch) -> Option<&CText>
+    ensures { IfSome result (λ n. TakesField n.now (touch_of touch.now)) }
+{
+    match touch {
+        Touch::Unset { place } => field_name(place),
+        Touch::Set { .. } | Touch::Resize { .. } => None,
+    }
+}
+
+/// The name of the field that the only touch takes out.
+pub(crate) fn taken_field(touches: &[Touch]) -> Option<&CText>
+    ensures { IfSome result (λ n. (t : Played) × (map touch_of touches.now ≡ t ∷ []) × TakesField n.now t) }
+{
+    match touches {
+        [touch] => taken_by(touch),
         _ => None,
     }
 }

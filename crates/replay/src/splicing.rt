@@ -8,16 +8,16 @@ ghost use Rattle.bson_view.specs.Kept.{kept_document};
 ghost use Rattle.bson_view.specs.Views.{document, elem_value};
 ghost use Rattle.doc_path.specs.Played.{played_all, touch_of};
 ghost use Rattle.coll_state.specs.Rows.{id_of, key_in};
-ghost use Rattle.replay.specs.Splicing.{IsThere, IsPut, IsPlayed, IsPlayedAlone, stays_within};
+ghost use Rattle.replay.specs.Splicing.{IsThere, IsPut, IsTaken, IsPlayed, IsPlayedAlone, stays_within};
 
-use crate::fields::{common_field, only_field};
+use crate::fields::{common_field, only_field, taken_field};
 use bson_encode::cmp_key;
 use bson_value::{CText, Doc, List, NsName, Value, type_byte};
 use bson_view::{DocumentBytes, Elem, Held, View};
 use coll_state::State;
 use delta_apply::play;
 use doc_path::{Form, Touch};
-use spliced_documents::with_field;
+use spliced_documents::{with_field, without_field};
 use std::alloc::{AllocError, Global};
 
 // Whether an element is this `_id`. One that holds other values isn't compared.
@@ -65,6 +65,23 @@ fn put_field(
 {
     match own_view(state, ns, id) {
         Some(view) => with_field(alloc, &view, name, value),
+        None => Ok(None),
+    }
+}
+
+/// The document without the field, in the bytes of the one that is there. `None` where it isn't kept as its
+/// spelling.
+fn take_field(
+    alloc: Global,
+    state: &State,
+    ns: &NsName,
+    id: &Value,
+    name: &CText,
+) -> Result<Option<DocumentBytes>, AllocError>
+    ensures { IfOk result (λ o. IfSome o (λ b. IsTaken ns.now id.now name.now state.now (kept_document b))) }
+{
+    match own_view(state, ns, id) {
+        Some(view) => without_field(alloc, &view, name.as_str()),
         None => Ok(None),
     }
 }
@@ -128,9 +145,27 @@ fn play_within(
     }
 }
 
-/// The document after the touches, where they are one that sets a field of it, or all stay within one field
-/// that it has, and it is kept as its spelling before and within the limits after it. Of the document that
-/// field alone is built.
+/// The document after the touches, where they are one that takes a field out of it, or all stay within one
+/// field that it has.
+fn take_or_play(
+    alloc: Global,
+    state: &State,
+    ns: &NsName,
+    id: &Value,
+    form: Form,
+    touches: &List<Touch>,
+) -> Result<Option<DocumentBytes>, AllocError>
+    ensures { IfOk result (λ o. IfSome o (λ b. IsPlayed ns.now id.now form touches.now state.now (kept_document b))) }
+{
+    match taken_field(touches.as_slice()) {
+        Some(name) => take_field(alloc, state, ns, id, name),
+        None => play_within(alloc, state, ns, id, form, touches),
+    }
+}
+
+/// The document after the touches, where they are one that sets a field of it or takes one out, or all stay
+/// within one field that it has, and it is kept as its spelling before and within the limits after it. Of
+/// the document that field alone is built.
 pub(crate) fn spliced(
     alloc: Global,
     state: &State,
@@ -143,6 +178,6 @@ pub(crate) fn spliced(
 {
     match only_field(touches.as_slice()) {
         Some((name, value)) => put_field(alloc, state, ns, id, name, value),
-        None => play_within(alloc, state, ns, id, form, touches),
+        None => take_or_play(alloc, state, ns, id, form, touches),
     }
 }

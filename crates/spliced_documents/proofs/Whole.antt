@@ -1,16 +1,18 @@
 -- A document with one of its elements replaced, or one more, spells the document with this field set.
 use Rattle.std.proofs.Common.{◌≡◌, ℕ, suc, ◌+◌, ◌-◌, ◌<◌, ◌≤◌, ◌^◌, List, [], ◌∷◌, ◌++◌, length, take, drop, refl, sym, ap, subst, ◌∙◌, append_assoc, arith}
+use Rattle.std.specs.Prelude.{◌↔◌, Option, Some, None, Result, Ok, Err, IfOk, IfSome, IsSome}
 use Rattle.std.proofs.lemmas.List.{take_at, drop_at, append-nil, length-append}
 use Rattle.containers.specs.Entries.{put}
 use Rattle.bson_value.specs.declared.value.Value.{Value}
 use Rattle.bson_value.specs.Levels.{levels_in, levels_of}
-use Rattle.bson_value.specs.Size.{Fits as FitsAlone}
-use Rattle.bson_value.specs.Spelling.{count_bytes, document_text, element, framed, spelling}
+use Rattle.bson_value.specs.Spelling.{count_bytes, document_text, element, framed, spelled, spelling}
+use Rattle.bson_value.specs.WellFormed.{IsName, IsWellFormed}
+use Rattle.bson_value.proofs.Sizes.{element_length}
 use Rattle.bson_check.specs.Spells.{AreFields, IsDocument, Spells, SpellsWithin}
 use Rattle.bson_check.proofs.Height.{document_bound, document_within}
-use Rattle.bson_encode.proofs.Grammar.{frame_is, framed_len}
+use Rattle.bson_encode.proofs.Grammar.{frame_is, framed_len, spelling_spells}
 use Rattle.bson_view.specs.Parts.{Part, body_of, elements_in, parts_of, SpellsValue}
-use Rattle.bson_view.proofs.Bodies.{body_cut, in_frame}
+use Rattle.bson_view.proofs.Bodies.{in_frame}
 use Rattle.spliced_documents.specs.Splicing.{front_of, rest_of, spliced, Fits, IsSpliced}
 use Rattle.spliced_documents.proofs.Distinct.{distinct_put}
 use Rattle.spliced_documents.proofs.Elements.{put_spelled}
@@ -32,10 +34,6 @@ module _ (k : List ℕ) (v : Value) where
   alone_body : body_of (document_text single) ≡ own
   alone_body = body_framed (own ++ []) ∙ append-nil own
 
-  -- the element alone
-  pub cut_out : (a : List ℕ) → a ≡ document_text single → take (length a - 1 - 4) (drop 4 a) ≡ own
-  cut_out a e = body_cut a ∙ ap body_of e ∙ alone_body
-
   pub alone_size : length (document_text single) ≡ length own + 5
   alone_size = omega (arith, framed_len (own ++ []), ap length (append-nil own))
 
@@ -53,12 +51,11 @@ module _ (k : List ℕ) (v : Value) where
     whole_size = omega (arith, framed_len (front ++ (own ++ rest)), length-append front (own ++ rest), length-append own rest)
 
     -- the pieces one after the other
-    pub pieces : (n : ℕ) (f e r : List ℕ) → f ≡ front → e ≡ own → r ≡ rest ++ 0 ∷ [] → n ≡ length f + length e + length r + 4 → count_bytes n ++ f ++ e ++ r ≡ spliced k v b
-    pieces n f e r is_front is_own is_rest is =
-        let m : n ≡ length (front ++ (own ++ rest)) + 5 =
-        omega (arith, is, ap length is_front, ap length is_own, ap length is_rest, length-append rest (0 ∷ []), length-append front (own ++ rest), length-append own rest) in
+    pieces : (n : ℕ) (f r : List ℕ) → f ≡ front → r ≡ rest ++ 0 ∷ [] → n ≡ length f + length own + length r + 4 → count_bytes n ++ f ++ own ++ r ≡ spliced k v b
+    pieces n f r is_front is_rest is =
+        let m : n ≡ length (front ++ (own ++ rest)) + 5 = omega (arith, is, ap length is_front, ap length is_rest, length-append rest (0 ∷ []), length-append front (own ++ rest), length-append own rest) in
         let c = count_bytes (length (front ++ (own ++ rest)) + 5) in
-        ap (λ (z : ℕ). count_bytes z ++ f ++ e ++ r) m ∙ ap (λ (z : List ℕ). c ++ z ++ e ++ r) is_front ∙ ap (λ (z : List ℕ). c ++ front ++ z ++ r) is_own ∙ ap (λ (z : List ℕ). c ++ front ++ own ++ z) is_rest
+        ap (λ (z : ℕ). count_bytes z ++ f ++ own ++ r) m ∙ ap (λ (z : List ℕ). c ++ z ++ own ++ r) is_front ∙ ap (λ (z : List ℕ). c ++ front ++ own ++ z) is_rest
         ∙ sym (append_assoc (c ++ front ++ own) rest (0 ∷ [])) ∙ ap (λ (z : List ℕ). z ++ 0 ∷ []) (append_assoc (c ++ front) own rest ∙ append_assoc c front (own ++ rest))
 
     document_put : (m : ℕ) (fs : List (List ℕ × Value)) → IsDocument (suc m) b fs → IsDocument (suc m) (document_text single) single → length (spliced k v b) < 2 ^ 31 → IsDocument (suc m) (spliced k v b) (put k v fs)
@@ -77,21 +74,34 @@ module _ (k : List ℕ) (v : Value) where
         let d = document_put 199 fs (document_within s.1 200 b fs s.2 le) (document_within x.1 200 (document_text single) single x.2 lf) (omega (arith, size)) in
         record { spells = (omega (arith, size), 200, d); short = size; shallow = document_bound 200 (spliced k v b) (put k v fs) d }
 
-    -- what fits whole fits alone
-    pub fits_alone : Fits k v b → FitsAlone single 16793600 200
-    fits_alone h = (omega (arith, h.0, alone_size, whole_size), omega (arith, h.1, alone_levels))
+    -- the value is a part of them
+    pub value_within : length (spelled v) ≤ length (spliced k v b)
+    value_within = omega (arith, whole_size, element_length k v)
 
-    pub fits_whole : FitsAlone single 16793600 200 → length (spliced k v b) ≤ 16793600 → Fits k v b
-    fits_whole h size = (size, omega (arith, h.1, alone_levels))
+    -- the element alone is that of a document
+    alone : IsName k → IsWellFormed v → length (document_text single) < 2 ^ 31 → Spells (document_text single) single
+    alone name formed small = spelling_spells single (((tt, tt), (name, tt)), (formed, tt)) small
 
     -- what the pieces make
-    pub made : (fs : List (List ℕ × Value)) → Spells b fs → levels_of fs ≤ 200 → (a : List ℕ) → a ≡ document_text single → (length a < 2 ^ 31 → Spells a single) → FitsAlone single 16793600 200 →
-        (f r bytes : List ℕ) → f ≡ front → r ≡ rest ++ 0 ∷ [] → length f + length (take (length a - 1 - 4) (drop 4 a)) + length r + 4 ≤ 16793600 →
-        bytes ≡ count_bytes (length f + length (take (length a - 1 - 4) (drop 4 a)) + length r + 4) ++ f ++ take (length a - 1 - 4) (drop 4 a) ++ r → IsSpliced k v b fs bytes
-    made fs s le a is_alone spells_alone fits f r bytes is_front is_rest short is =
-        let e = take (length a - 1 - 4) (drop 4 a) in
-        let own_is : e ≡ own = cut_out a is_alone in
-        let whole : bytes ≡ spliced k v b = is ∙ pieces (length f + length e + length r + 4) f e r is_front own_is is_rest refl in
-        let size : length (spliced k v b) ≤ 16793600 = omega (arith, short, whole_size, ap length is_front, ap length own_is, ap length is_rest, length-append rest (0 ∷ [])) in
-        let x : Spells (document_text single) single = subst (λ (z : List ℕ). Spells z single) is_alone (spells_alone (omega (arith, fits.0, ap length is_alone))) in
-        (whole, subst (λ (z : List ℕ). SpellsWithin 16793600 200 z (put k v fs)) (sym whole) (spells_put fs s le x fits.1 size))
+    module _ (fs : List (List ℕ × Value)) (s : Spells b fs) (le : levels_of fs ≤ 200) (name : IsName k) (formed : IsWellFormed v) (shallow : levels_in v ≤ 199) (f r : List ℕ) (is_front : f ≡ front) (is_rest : r ≡ rest ++ 0 ∷ []) where
+      abbrev pub total : ℕ
+      total = length f + length own + length r + 4
+
+      total_is : total ≡ length (spliced k v b)
+      total_is = omega (arith, whole_size, ap length is_front, ap length is_rest, length-append rest (0 ∷ []))
+
+      made : (bytes : List ℕ) → total ≤ 16793600 → bytes ≡ count_bytes total ++ f ++ own ++ r → IsSpliced k v b fs bytes
+      made bytes short is =
+          let whole : bytes ≡ spliced k v b = is ∙ pieces total f r is_front is_rest refl in
+          let size : length (spliced k v b) ≤ 16793600 = omega (arith, short, total_is) in
+          let x = alone name formed (omega (arith, size, alone_size, whole_size)) in
+          (whole, subst (λ (z : List ℕ). SpellsWithin 16793600 200 z (put k v fs)) (sym whole) (spells_put fs s le x (omega (arith, shallow, alone_levels)) size))
+
+      pub all_made : {E : Type 0} (o : Result (Option (List ℕ)) E) → IfOk o (λ o. IfSome o (λ bytes. bytes ≡ count_bytes total ++ f ++ own ++ r)) → IfOk o (λ o. IsSome o ↔ (total ≤ 16793600)) → IfOk o (λ o. IfSome o (IsSpliced k v b fs))
+      all_made (Ok (Some bytes)) is fits = made bytes (fits.0 refl) is
+      all_made (Ok None) is fits = tt
+      all_made (Err e) is fits = tt
+
+      pub all_fit : {E : Type 0} (o : Result (Option (List ℕ)) E) → IfOk o (λ o. IsSome o ↔ (total ≤ 16793600)) → IfOk o (λ o. IsSome o ↔ Fits k v b)
+      all_fit (Ok o) fits = (λ some. (omega (arith, fits.0 some, total_is), omega (arith, shallow)), λ h. fits.1 (omega (arith, h.0, total_is)))
+      all_fit (Err e) fits = tt

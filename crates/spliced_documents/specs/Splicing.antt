@@ -1,7 +1,7 @@
--- The bytes of a document with another element in the place of the one of its name, or behind all others.
+-- The bytes of a document with another element in the place of the one of its name, or behind all others, and without that one.
 use Rattle.std.specs.Prelude.{◌≡◌, ℕ, ◌<◌, ◌≤◌, List, [], ◌∷◌, ◌++◌, length, if◌then◌else◌}
 use Rattle.std.specs.Str.{bytes_eq}
-use Rattle.containers.specs.Entries.{put}
+use Rattle.containers.specs.Entries.{put, without}
 use Rattle.bson_value.specs.declared.value.Value.{Value}
 use Rattle.bson_value.specs.Levels.{levels_in}
 use Rattle.bson_value.specs.Spelling.{element, framed, spelling}
@@ -29,3 +29,11 @@ Fits k v bytes = (length (spliced k v bytes) ≤ 16793600) × (levels_in v < 200
 -- these are they, and spell the fields with this one set
 abbrev pub IsSpliced : List ℕ → Value → List ℕ → List (List ℕ × Value) → List ℕ → Type 0
 IsSpliced k v bytes fs new = (new ≡ spliced k v bytes) × SpellsWithin 16793600 200 new (put k v fs)
+
+-- a document's bytes without this field
+abbrev pub cut : List ℕ → List ℕ → List ℕ
+cut k bytes = framed (front_of k (elements_in bytes) ++ rest_of k (elements_in bytes))
+
+-- these are they, and spell the fields without this one
+abbrev pub IsCut : List ℕ → List ℕ → List (List ℕ × Value) → List ℕ → Type 0
+IsCut k bytes fs new = (new ≡ cut k bytes) × SpellsWithin 16793600 200 new (without k fs)

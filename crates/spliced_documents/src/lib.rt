@@ -1,7 +1,8 @@
 //! Documents whose bytes are changed at one field, without being read.
 #![tactic(auto)]
 
+mod levels;
 mod pieces;
 mod splicing;
 
-pub use splicing::with_field;
+pub use splicing::{with_field, without_field};

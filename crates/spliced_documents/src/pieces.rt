@@ -1,37 +1,25 @@
 //! The pieces of which a changed document is made.
-ghost use Rattle.std.specs.Prelude.{◌≡◌, ◌+◌, ◌<◌, ◌^◌, ◌++◌, ◌∷◌, [], length, IfOk, IfSome, IfNone};
-ghost use Rattle.bson_check.specs.Spells.{Spells};
-ghost use Rattle.bson_value.specs.Size.{Fits};
-ghost use Rattle.bson_value.specs.Spelling.{count_bytes, document_text};
+ghost use Rattle.std.specs.Prelude.{◌≡◌, ◌↔◌, ◌+◌, ◌<◌, ◌≤◌, ◌^◌, ◌++◌, ◌∷◌, [], length, OnOk, IfOk, IfSome, IsSome};
+ghost use Rattle.bson_check.specs.Spells.{IsName, Spells};
+ghost use Rattle.bson_value.specs.Spelling.{count_bytes, element, spelling};
+ghost use Rattle.bson_value.specs.WellFormed.{IsWellFormed};
 ghost use Rattle.bson_view.specs.Parts.{elements_in};
 ghost use Rattle.bson_view.specs.Views.{document, view_bytes};
 ghost use Rattle.spliced_documents.specs.Splicing.{front_of, rest_of};
 
-use bson_check::{MAX_DOCUMENT_BYTES, MAX_LEVELS};
-use bson_encode::encode;
-use bson_value::{Bytes, CText, Doc, Value};
+use bson_check::MAX_DOCUMENT_BYTES;
+use bson_encode::{put_key, type_of};
+use bson_value::{Bytes, CText, Value};
 use bson_view::View;
 use std::alloc::{AllocError, Global};
 
-/// The bytes of a document of this field alone, where it is within the limits.
-pub(crate) fn field_alone(
-    alloc: Global,
-    name: &CText,
-    value: &Value,
-) -> Result<Option<Bytes>, AllocError>
-    ensures bytes { IfOk result (λ o. IfSome o (λ b. b ≡ document_text ((name.now, value.now) ∷ []))) }
-    ensures spells { IfOk result (λ o. IfSome o (λ b. length b < 2 ^ 31 → Spells b ((name.now, value.now) ∷ []))) }
-    ensures some { IfOk result (λ o. IfSome o (λ _. Fits ((name.now, value.now) ∷ []) 16793600 200)) }
-    ensures none { IfOk result (λ o. IfNone o (Fits ((name.now, value.now) ∷ []) 16793600 200 → ⊥)) }
+/// Does nothing. Its caller learns that the name has no zero in it, and that the value is well-formed.
+pub(crate) fn are_well_formed(name: &CText, value: &Value)
+    ensures name { IsName name.now }
+    ensures value { IsWellFormed value.now }
 {
-    let name = name.copy(alloc)?;
-    let value = value.copy(alloc)?;
-    let mut doc = Doc::new(alloc);
-    doc.set(name, value)?;
-    if !doc.fits(MAX_DOCUMENT_BYTES, MAX_LEVELS) {
-        return Ok(None);
-    }
-    Ok(Some(encode(alloc, &doc)?))
+    let _ = name.as_str();
+    value.is_well_formed();
 }
 
 /// The elements before the field of this name, and those behind it with the document's last zero.
@@ -53,21 +41,55 @@ pub(crate) fn around<'a>(view: &View<'a>, name: &str) -> (&'a [u8], &'a [u8])
     (&bytes[4..start], &bytes[start..])
 }
 
-/// A length that counts all of them, and the pieces.
+// Appends the element. After an error a part of it may stand behind what was there.
+fn put_element(out: &mut Vec<u8>, name: &CText, value: &Value) -> Result<(), AllocError>
+    ensures { OnOk result (out.new.items ≡ out.old.items ++ element (name.now, spelling value.now)) }
+{
+    out.push(type_of(value))?;
+    out.extend_from_slice(name.as_str().as_bytes())?;
+    // The key begins with the type, and the zero behind the name takes its place.
+    let zero = out.len();
+    put_key(out, value)?;
+    out[zero] = 0;
+    Ok(())
+}
+
+/// A length that counts all of them, and the pieces with the element of this name and value between them.
+/// `None` where they are more than a document may have.
 pub(crate) fn counted(
     alloc: Global,
     front: &[u8],
-    element: &[u8],
+    name: &CText,
+    value: &Value,
     rest: &[u8],
-) -> Result<Bytes, AllocError>
-    requires { length front.now + length element.now + length rest.now + 4 < 2 ^ 32 }
-    ensures { IfOk result (λ b. b ≡ count_bytes (length front.now + length element.now + length rest.now + 4) ++ front.now ++ element.now ++ rest.now) }
+) -> Result<Option<Bytes>, AllocError>
+    requires { length front.now + length rest.now < 2 ^ 31 }
+    ensures bytes { IfOk result (λ o. IfSome o (λ b. b ≡ count_bytes (length front.now + length (element (name.now, spelling value.now)) + length rest.now + 4) ++ front.now ++ element (name.now, spelling value.now) ++ rest.now)) }
+    ensures fits { IfOk result (λ o. IsSome o ↔ (length front.now + length (element (name.now, spelling value.now)) + length rest.now + 4 ≤ 16793600)) }
 {
-    let len = front.len() + element.len() + rest.len() + 4;
+    let around = front.len() + name.as_str().len() + rest.len() + 6;
+    let len = around.wrapping_add(value.spelling_len());
+    if len > MAX_DOCUMENT_BYTES {
+        return Ok(None);
+    }
     let mut out = Vec::with_capacity(alloc, len)?;
     out.extend_from_slice(&(len as u32).to_le_bytes())?;
     out.extend_from_slice(front)?;
-    out.extend_from_slice(element)?;
+    put_element(&mut out, name, value)?;
+    out.extend_from_slice(rest)?;
+    let _written = out.len();
+    Ok(Some(Bytes::from_vec(out)))
+}
+
+/// A length that counts all of them, and the two pieces.
+pub(crate) fn joined(alloc: Global, front: &[u8], rest: &[u8]) -> Result<Bytes, AllocError>
+    requires { length front.now + length rest.now + 4 < 2 ^ 32 }
+    ensures { IfOk result (λ b. b ≡ count_bytes (length front.now + length rest.now + 4) ++ front.now ++ rest.now) }
+{
+    let len = front.len() + rest.len() + 4;
+    let mut out = Vec::with_capacity(alloc, len)?;
+    out.extend_from_slice(&(len as u32).to_le_bytes())?;
+    out.extend_from_slice(front)?;
     out.extend_from_slice(rest)?;
     Ok(Bytes::from_vec(out))
 }

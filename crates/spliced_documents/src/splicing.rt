@@ -1,13 +1,14 @@
-//! A field of a document that is set in its bytes.
-ghost use Rattle.std.specs.Prelude.{◌≡◌, ◌↔◌, ◌≤◌, IfOk, IfSome, IsSome};
-ghost use Rattle.containers.specs.Entries.{put};
+//! A field of a document that is set in its bytes, or taken out of them.
+ghost use Rattle.std.specs.Prelude.{◌≡◌, ◌↔◌, ◌≤◌, length, IfOk, IfSome, IsSome};
+ghost use Rattle.containers.specs.Entries.{put, without};
 ghost use Rattle.bson_value.specs.Levels.{levels_of};
 ghost use Rattle.bson_view.specs.Kept.{kept_bytes, kept_document};
 ghost use Rattle.bson_view.specs.Views.{document, view_bytes};
-ghost use Rattle.spliced_documents.specs.Splicing.{spliced, Fits, IsSpliced};
+ghost use Rattle.spliced_documents.specs.Splicing.{cut, spliced, Fits, IsCut, IsSpliced};
 
-use crate::pieces::{around, counted, field_alone};
-use bson_check::{MAX_DOCUMENT_BYTES, faultless_if_spelled};
+use crate::levels::is_shallow;
+use crate::pieces::{are_well_formed, around, counted, joined};
+use bson_check::{MAX_DOCUMENT_BYTES, MAX_LEVELS, faultless_if_spelled};
 use bson_value::{Bytes, CText, Value};
 use bson_view::{DocumentBytes, View, one_document};
 use std::alloc::{AllocError, Global};
@@ -22,16 +23,12 @@ fn spliced(
     ensures some { IfOk result (λ o. IfSome o (IsSpliced name.now value.now (view_bytes view.now) (document view.now))) }
     ensures fits { IfOk result (λ o. IsSome o ↔ Fits name.now value.now (view_bytes view.now)) }
 {
-    let Some(alone) = field_alone(alloc, name, value)? else {
-        return Ok(None);
-    };
-    let alone = alone.as_slice();
-    let element = &alone[4..alone.len() - 1];
-    let (front, rest) = around(view, name.as_str());
-    if front.len() + element.len() + rest.len() + 4 > MAX_DOCUMENT_BYTES {
+    if !is_shallow(value, MAX_LEVELS - 1) {
         return Ok(None);
     }
-    Ok(Some(counted(alloc, front, element, rest)?))
+    are_well_formed(name, value);
+    let (front, rest) = around(view, name.as_str());
+    counted(alloc, front, name, value, rest)
 }
 
 /// The document with the value in the field of this name: in its place, or else last. `None` exactly where
@@ -48,6 +45,38 @@ pub fn with_field(
     ensures fits { IfOk result (λ o. IsSome o ↔ Fits name.now value.now (view_bytes view.now)) }
 {
     let Some(bytes) = spliced(alloc, view, name, value)? else {
+        return Ok(None);
+    };
+    faultless_if_spelled();
+    one_document();
+    Ok(Some(DocumentBytes::of_checked(bytes)))
+}
+
+fn cut(alloc: Global, view: &View<'_>, name: &str) -> Result<Option<Bytes>, AllocError>
+    requires { levels_of (document view.now) ≤ 200 }
+    ensures some { IfOk result (λ o. IfSome o (IsCut name.now (view_bytes view.now) (document view.now))) }
+    ensures fits { IfOk result (λ o. IsSome o ↔ (length (cut name.now (view_bytes view.now)) ≤ 16793600)) }
+{
+    let (front, rest) = around(view, name);
+    if front.len() + rest.len() + 4 > MAX_DOCUMENT_BYTES {
+        return Ok(None);
+    }
+    Ok(Some(joined(alloc, front, rest)?))
+}
+
+/// The document without the field of this name, or as it is where there is none. `None` exactly where that
+/// has more than 16,793,600 bytes. All other bytes are copied as they lie.
+pub fn without_field(
+    alloc: Global,
+    view: &View<'_>,
+    name: &str,
+) -> Result<Option<DocumentBytes>, AllocError>
+    requires { levels_of (document view.now) ≤ 200 }
+    ensures bytes { IfOk result (λ o. IfSome o (λ b. kept_bytes b ≡ cut name.now (view_bytes view.now))) }
+    ensures document { IfOk result (λ o. IfSome o (λ b. kept_document b ≡ without name.now (document view.now))) }
+    ensures fits { IfOk result (λ o. IsSome o ↔ (length (cut name.now (view_bytes view.now)) ≤ 16793600)) }
+{
+    let Some(bytes) = cut(alloc, view, name)? else {
         return Ok(None);
     };
     faultless_if_spelled();

@@ -1,0 +1,28 @@
+use Rattle.std.proofs.Common.{ℕ, ◌∙◌, List, sym, subst, Option}
+use Rattle.std.specs.Prelude.{IfSome}
+use Rattle.containers.specs.Entries.{without}
+use Rattle.bson_check.specs.Spells.{Spells}
+use Rattle.bson_view.specs.Kept.{kept_bytes}
+use Rattle.bson_view.specs.Views.{document, view_bytes}
+use Rattle.spliced_documents.specs.Splicing.{IsCut}
+use Rattle.spliced_documents.proofs.splicing.without_field.Goals as goal
+
+pub of_checked-requires : goal.of_checked-requires
+of_checked-requires c =
+    let k = c.args.name.now in
+    let fs = document c.args.view.now in
+    let made = subst (λ (o : Option (List ℕ)). IfSome o (IsCut k (view_bytes c.args.view.now) fs)) c.in-Some.is c.in_ok-bytes.ensures.some in
+    (c.faultless_if_spelled.ensures 16793600 200 c.in-Some.bytes).1 (without k fs, made.1)
+
+pub returns-clause-bytes : goal.returns-clause-bytes
+returns-clause-bytes c =
+    let k = c.args.name.now in
+    let made = subst (λ (o : Option (List ℕ)). IfSome o (IsCut k (view_bytes c.args.view.now) (document c.args.view.now))) c.in-Some.is c.in_ok-bytes.ensures.some in
+    c.of_checked.ensures ∙ made.0
+
+pub returns-clause-document : goal.returns-clause-document
+returns-clause-document c =
+    let k = c.args.name.now in
+    let fs = document c.args.view.now in
+    let made = subst (λ (o : Option (List ℕ)). IfSome o (IsCut k (view_bytes c.args.view.now) fs)) c.in-Some.is c.in_ok-bytes.ensures.some in
+    c.one_document.ensures (kept_bytes c.of_checked.result) (without k fs) (subst (λ (z : List ℕ). Spells z (without k fs)) (sym c.of_checked.ensures) made.1.spells)
