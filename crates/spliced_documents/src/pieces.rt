@@ -77,7 +77,6 @@ pub(crate) fn counted(
     out.extend_from_slice(front)?;
     put_element(&mut out, name, value)?;
     out.extend_from_slice(rest)?;
-    let _written = out.len();
     Ok(Some(Bytes::from_vec(out)))
 }
 
