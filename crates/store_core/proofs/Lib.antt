@@ -9,3 +9,4 @@ pub mod RingLaws
 pub mod Elsewhere
 pub mod Following
 pub mod TogetherEffects
+pub mod Ends

@@ -4,3 +4,4 @@ pub mod Applying
 pub mod Documents
 pub mod Together
 pub mod Databases
+pub mod Spellings

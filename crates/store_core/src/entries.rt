@@ -1,11 +1,15 @@
 //! The bytes of the entries that are next.
-ghost use Rattle.std.specs.Prelude.{◌≡◌, ℕ, List, IfOk};
+ghost use Rattle.std.specs.Prelude.{◌≡◌, ℕ, List, IfOk, true};
 ghost use Rattle.bson_value.specs.declared.value.Value.{Value};
 ghost use Rattle.bson_value.specs.Spelling.{document_text};
 ghost use Rattle.entry_model.specs.Spelling.{entry_fields};
+ghost use Rattle.coll_state.specs.Kept.{is_short};
 ghost use Rattle.history_model.specs.Entries.{entry_with, database};
+ghost use Rattle.store_core.specs.Spellings.{EndsWith, IsSpellingOf};
 
+use crate::own_bytes::spelling_in;
 use bson_value::{Bytes, Doc, NsName, Text, Ts, Value};
+use bson_view::DocumentBytes;
 use entry_model::{Action, Entry};
 use entry_writer::write;
 use std::alloc::{AllocError, Global};
@@ -61,37 +65,64 @@ fn document_placed(action: Action) -> Doc
     }
 }
 
-/// The bytes of an entry that puts a document, and the document again.
+// The bytes of an entry that puts a document, the document, and its spelling.
+fn with_spelling(
+    alloc: Global,
+    bytes: Bytes,
+    doc: Doc,
+) -> Result<(Bytes, Doc, DocumentBytes), AllocError>
+    requires ends { EndsWith bytes doc }
+    requires short { is_short doc ≡ true }
+    ensures bytes { IfOk result (λ r. r.0 ≡ bytes) }
+    ensures doc { IfOk result (λ r. r.1 ≡ doc) }
+    ensures spelling { IfOk result (λ r. IsSpellingOf r.2 doc) }
+{
+    match spelling_in(alloc, bytes.as_slice(), &doc) {
+        Ok(spelling) => Ok((bytes, doc, spelling)),
+        Err(e) => {
+            drop(bytes);
+            drop(doc);
+            Err(e)
+        }
+    }
+}
+
+/// The bytes of an entry that puts a document, the document again, and its spelling.
 pub(crate) fn spelled_put(
     alloc: Global,
     ts: Ts,
     ns: &NsName,
     doc: Doc,
-) -> Result<(Bytes, Doc), AllocError>
+) -> Result<(Bytes, Doc, DocumentBytes), AllocError>
+    requires { is_short doc ≡ true }
     ensures bytes { IfOk result (λ r. r.0 ≡ document_text (entry_fields (entry_with ts ns.now (Action.Put doc)))) }
     ensures doc { IfOk result (λ r. r.1 ≡ doc) }
+    ensures spelling { IfOk result (λ r. IsSpellingOf r.2 doc) }
 {
     let ns = ns.copy(alloc)?;
     let action = Action::Put { doc };
     let (bytes, action) = spelled_with(alloc, Entry { ts, ns, action })?;
-    Ok((bytes, document_put(action)))
+    with_spelling(alloc, bytes, document_put(action))
 }
 
-/// The bytes of an entry that puts a document whole in the place of the one with its `_id`, and the document again.
+/// The bytes of an entry that puts a document whole in the place of the one with its `_id`, the document again, and its
+/// spelling.
 pub(crate) fn spelled_whole(
     alloc: Global,
     ts: Ts,
     ns: &NsName,
     id: Value,
     doc: Doc,
-) -> Result<(Bytes, Doc), AllocError>
+) -> Result<(Bytes, Doc, DocumentBytes), AllocError>
+    requires { is_short doc ≡ true }
     ensures bytes { IfOk result (λ r. r.0 ≡ document_text (entry_fields (entry_with ts ns.now (Action.Whole id doc)))) }
     ensures doc { IfOk result (λ r. r.1 ≡ doc) }
+    ensures spelling { IfOk result (λ r. IsSpellingOf r.2 doc) }
 {
     let ns = ns.copy(alloc)?;
     let action = Action::Whole { id, doc };
     let (bytes, action) = spelled_with(alloc, Entry { ts, ns, action })?;
-    Ok((bytes, document_placed(action)))
+    with_spelling(alloc, bytes, document_placed(action))
 }
 
 /// The bytes of an entry of a collection.

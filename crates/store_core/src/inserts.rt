@@ -47,8 +47,8 @@ impl Store {
         requires kept { IsKept first }
         ensures { Applies (Command.Document (DocumentCommand.Insert ns.now doc.now)) self.old result self.new }
     {
-        let (bytes, first) = spelled_put(self.alloc, self.next_ts(), ns, first)?;
-        self.put(ns, first, bytes)?;
+        let (bytes, first, spelling) = spelled_put(self.alloc, self.next_ts(), ns, first)?;
+        self.put(ns, &first, spelling, bytes)?;
         Ok(1)
     }
 
@@ -71,7 +71,7 @@ impl Store {
         let creation = self.creation_bytes(ns)?;
         self.log.is_kept();
         let later = next_ts(self.log.clock(), self.next_ts());
-        let (bytes, first) = spelled_put(self.alloc, later, ns, first)?;
+        let (bytes, first, _) = spelled_put(self.alloc, later, ns, first)?;
         self.put_first(ns, first, creation, bytes)?;
         Ok(2)
     }

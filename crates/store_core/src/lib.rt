@@ -8,6 +8,7 @@ mod entries;
 mod fault;
 mod indexes;
 mod inserts;
+mod own_bytes;
 mod replacements;
 mod store;
 mod transaction;

@@ -81,8 +81,8 @@ impl Store {
         ensures { Applies (Command.Document (DocumentCommand.Replace ns.now doc.now)) self.old result self.new }
     {
         let id = id_of(self.alloc, &first)?;
-        let (bytes, first) = spelled_whole(self.alloc, self.next_ts(), ns, id, first)?;
-        self.put(ns, first, bytes)?;
+        let (bytes, first, spelling) = spelled_whole(self.alloc, self.next_ts(), ns, id, first)?;
+        self.put(ns, &first, spelling, bytes)?;
         Ok(1)
     }
 

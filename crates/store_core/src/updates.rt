@@ -9,6 +9,7 @@ ghost use Rattle.store_core.specs.Documents.{update_effects, IsKeptUnder, IsAcce
 use crate::collections::unless;
 use crate::entries::spelled_of;
 use crate::fault::StoreFault;
+use crate::own_bytes::spelling_of;
 use crate::replacements::unless_same;
 use crate::store::Store;
 use bson_value::{Doc, NsName, Value};
@@ -85,7 +86,8 @@ impl Store {
         let Updated { doc, touches } = updated;
         let action = update_action(self.alloc, id, &doc, touches.as_slice(), form)?;
         let bytes = spelled_of(self.alloc, self.next_ts(), ns, action)?;
-        self.put(ns, doc, bytes)?;
+        let spelling = spelling_of(self.alloc, &doc)?;
+        self.put(ns, &doc, spelling, bytes)?;
         Ok(1)
     }
 

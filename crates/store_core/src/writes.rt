@@ -12,9 +12,12 @@ ghost use Rattle.kept_indexes.specs.Kept.{AreKept};
 ghost use Rattle.store_core.specs.Databases.{AreAmong};
 ghost use Rattle.store_log.specs.Logged.{logged};
 ghost use Rattle.store_core.specs.Applying.{with_rename};
+ghost use Rattle.store_core.specs.Spellings.{IsSpellingOf};
 
+use crate::own_bytes::put_spelled;
 use crate::store::Store;
 use bson_value::{Bytes, Doc, NsName, Value};
+use bson_view::DocumentBytes;
 use coll_state::State;
 use json_tree::Tree;
 use kept_indexes::KeptIndexes;
@@ -42,17 +45,25 @@ fn forget_database(indexes: &mut KeptIndexes, state: &State, db: &str)
 }
 
 impl Store {
-    pub(crate) fn put(&mut self, ns: &NsName, doc: Doc, bytes: Bytes) -> Result<(), AllocError>
-        requires id { is_some (id_of doc) ≡ true }
-        requires short { is_short doc ≡ true }
+    /// Puts a document, which is kept as this spelling.
+    pub(crate) fn put(
+        &mut self,
+        ns: &NsName,
+        doc: &Doc,
+        spelling: DocumentBytes,
+        bytes: Bytes,
+    ) -> Result<(), AllocError>
+        requires id { is_some (id_of doc.now) ≡ true }
+        requires spelling { IsSpellingOf spelling doc.now }
+        requires short { is_short doc.now ≡ true }
         requires few { self.old.log.recorded < 4000000000 }
-        requires holds { IndexesHold (put ns.now doc self.old.rows) }
-        ensures ok { OnOk result (self.new ≡ record { rows = put ns.now doc self.old.rows; log = logged bytes self.old.log }) }
+        requires holds { IndexesHold (put ns.now doc.now self.old.rows) }
+        ensures ok { OnOk result (self.new ≡ record { rows = put ns.now doc.now self.old.rows; log = logged bytes self.old.log }) }
         ensures err { OnErr result (self.new ≡ self.old) }
     {
         self.state.is_sound();
-        let _ = self.indexes.put(self.alloc, ns, &doc);
-        match self.state.put(self.alloc, ns, doc) {
+        let _ = self.indexes.put(self.alloc, ns, doc);
+        match put_spelled(self.alloc, &mut self.state, ns, doc, spelling) {
             Ok(()) => {
                 self.log.add(bytes);
                 Ok(())

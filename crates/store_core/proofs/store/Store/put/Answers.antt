@@ -11,14 +11,14 @@ use Rattle.store_core.proofs.store.Store.put.Goals as goal
 pub invariant_of-self : goal.invariant_of-self
 invariant_of-self c =
     let r = c.self.inside.state in
-    let after = put c.args.ns.now c.args.doc r in
-    let hold = subst (λ (s : Stored). IndexesHold (put c.args.ns.now c.args.doc s.rows)) (sym c.self.view_is) c.requires.holds in
-    sound_single (Put c.args.ns.now (key_in (id_of c.args.doc)) c.args.doc) r c.put-2.new.self c.self.inside.log c.add.new.self c.args.self.now c.args.bytes c.self.view_is c.self.invariant (refl, c.requires.short) c.requires.holds c.in-Ok.ensures.ok c.add.ensures c.requires.few
-    (kept_of c.put.new.self c.put-2.new.self after c.in-Ok.ensures.ok (c.put.ensures.kept r c.self.invariant.kept c.is_sound.ensures hold))
+    let after = put c.args.ns.now c.args.doc.now r in
+    let hold = subst (λ (s : Stored). IndexesHold (put c.args.ns.now c.args.doc.now s.rows)) (sym c.self.view_is) c.requires.holds in
+    sound_single (Put c.args.ns.now (key_in (id_of c.args.doc.now)) c.args.doc.now) r c.put_spelled.new.state c.self.inside.log c.add.new.self c.args.self.now c.args.bytes c.self.view_is c.self.invariant (refl, c.requires.short) c.requires.holds c.in-Ok.ensures.ok c.add.ensures c.requires.few
+    (kept_of c.put.new.self c.put_spelled.new.state after c.in-Ok.ensures.ok (c.put.ensures.kept r c.self.invariant.kept c.is_sound.ensures hold))
 
 pub invariant_of-self-in-Err-1 : goal.invariant_of-self-in-Err-1
 invariant_of-self-in-Err-1 c =
     let r = c.self.inside.state in
-    let hold = subst (λ (s : Stored). IndexesHold (put c.args.ns.now c.args.doc s.rows)) (sym c.self.view_is) c.requires.holds in
-    sound_same r c.put-2.new.self c.self.inside.log c.self.invariant c.in-Err.ensures.err
-    (c.forget.ensures.kept (put c.args.ns.now c.args.doc r) r (c.put.ensures.kept r c.self.invariant.kept c.is_sound.ensures hold) (before_put c.args.ns.now c.args.doc r))
+    let hold = subst (λ (s : Stored). IndexesHold (put c.args.ns.now c.args.doc.now s.rows)) (sym c.self.view_is) c.requires.holds in
+    sound_same r c.put_spelled.new.state c.self.inside.log c.self.invariant c.in-Err.ensures.err
+    (c.forget.ensures.kept (put c.args.ns.now c.args.doc.now r) r (c.put.ensures.kept r c.self.invariant.kept c.is_sound.ensures hold) (before_put c.args.ns.now c.args.doc.now r))
