@@ -1,13 +1,17 @@
 //! Which documents of an oplog a restore replays.
 ghost use Rattle.std.specs.Prelude.{◌≡◌, IfOk, OnOk};
 ghost use Rattle.std.specs.List.{before_first};
+ghost use Rattle.bson_view.specs.Views.{document};
 ghost use Rattle.entry_model.specs.Reading.{is_dot, namespace_of, entry_of};
+ghost use Rattle.entry_reader.specs.Entries.{AreFieldsOf};
 ghost use Rattle.restore_entries.specs.Oplog.{is_before, is_asked, is_command, matters, at_entry, at_fault, at_head, reading_of};
 
 use crate::cut::{cut_entry, takes_entry};
 use bson_value::{Doc, NsName, Ts, Value};
+use bson_view::View;
 use entry_model::{Entry, EntryFault};
-use oplog_entry::{head, read};
+use entry_reader::{EntryView, to_doc};
+use oplog_entry::read;
 use restore_filter::Filter;
 use std::alloc::{AllocError, Global};
 
@@ -102,8 +106,8 @@ fn of_document(fault: EntryFault) -> Result<(), AllocError>
     }
 }
 
-// What an entry is that is asked for.
-fn read_asked(
+// What an entry is that is asked for, by its document.
+fn read_built(
     alloc: Global,
     rules: &Filter,
     doc: &Doc,
@@ -121,25 +125,43 @@ fn read_asked(
     }
 }
 
+// The same in its bytes, where it changes one document.
+fn read_asked(
+    alloc: Global,
+    rules: &Filter,
+    entry: &EntryView<'_>,
+    view: &View<'_>,
+    ts: Ts,
+    text: &str,
+) -> Result<EntryReading, AllocError>
+    requires { AreFieldsOf entry.now (document view.now) }
+    ensures { IfOk result (λ r. r ≡ at_head rules.now (document view.now) (ts, text.now) (entry_of (document view.now))) }
+{
+    match entry.change(alloc)? {
+        Some(change) => Ok(at_entry(rules, change)),
+        None => {
+            let doc = to_doc(alloc, view)?;
+            read_built(alloc, rules, &doc, ts, text)
+        }
+    }
+}
+
 /// What a document of the oplog is to a restore with this filter and this limit. Where it isn't asked for, only its head
-/// is looked at.
+/// is looked at. The document itself is built only where its entry is none that changes one document.
 pub fn read_entry(
     alloc: Global,
     rules: &Filter,
     limit: Option<Ts>,
-    doc: &Doc,
+    view: &View<'_>,
 ) -> Result<EntryReading, AllocError>
-    ensures { IfOk result (λ r. r ≡ reading_of rules.now limit doc.now) }
+    ensures { IfOk result (λ r. r ≡ reading_of rules.now limit (document view.now)) }
 {
-    let (ts, text) = match head(alloc, doc) {
-        Ok(parts) => parts,
-        Err(fault) => {
-            of_document(fault)?;
-            return Ok(EntryReading::Unreadable(None));
-        }
+    let entry = EntryView::of(view);
+    let Some((ts, text)) = entry.head() else {
+        return Ok(EntryReading::Unreadable(None));
     };
-    if is_asked(limit, ts, text.as_str()) {
-        read_asked(alloc, rules, doc, ts, text.as_str())
+    if is_asked(limit, ts, text) {
+        read_asked(alloc, rules, &entry, view, ts, text)
     } else {
         Ok(EntryReading::Passed)
     }

@@ -4,13 +4,12 @@ ghost use Rattle.archive_format.specs.Archive.{fault_in};
 ghost use Rattle.restore_plan.specs.Base.{oplog_reading};
 
 use crate::plan::Plan;
-use bson_check::DecodeFault;
-use bson_core::decode;
+use bson_view::View;
 use restore_entries::{EntryReading, read_entry};
 use std::alloc::{AllocError, Global};
 
 /// What a document of the oplog is to the restore.
-#[tactic(auto, unfolding(archive_format::specs::Archive::fault_in, archive_format::specs::Archive::fields_of))]
+#[tactic(auto, unfolding(archive_format::specs::Archive::fault_in, archive_format::specs::Archive::fields_of, bson_check::specs::Faults::first_fault))]
 pub(crate) fn read_oplog(
     alloc: Global,
     plan: &Plan,
@@ -22,9 +21,5 @@ pub(crate) fn read_oplog(
     if !plan.replaying {
         return Ok(EntryReading::Passed);
     }
-    match decode(alloc, bytes, 16793600, 200) {
-        Ok(document) => read_entry(alloc, &plan.filter, plan.limit, &document),
-        Err(DecodeFault::NoMemory) => Err(AllocError),
-        Err(DecodeFault::Bad(_)) => unreachable!(),
-    }
+    read_entry(alloc, &plan.filter, plan.limit, &View::of(bytes))
 }

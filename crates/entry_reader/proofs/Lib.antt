@@ -1,0 +1,4 @@
+mod Values
+mod Names
+mod Documents
+pub mod Changes
