@@ -6,3 +6,4 @@ pub mod Made
 pub mod Calls
 pub mod Folds
 pub mod Faults
+pub mod Spellings

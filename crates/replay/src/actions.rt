@@ -103,7 +103,7 @@ fn play_touches(
     ensures count { state.new.count ≤ state.old.count + 1 }
 {
     match spliced(alloc, state, ns, id, form, touches)? {
-        Some(bytes) => state.put_bytes(alloc, ns, bytes),
+        Some(bytes) => state.put_spelling(alloc, ns, bytes),
         None => play_built(alloc, state, ns, id, form, touches),
     }
 }

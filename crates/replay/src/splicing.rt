@@ -4,10 +4,12 @@ ghost use Rattle.std.specs.List.{list_all};
 ghost use Rattle.bson_value.specs.declared.value.Value.{Object};
 ghost use Rattle.bson_value.specs.Levels.{levels_of};
 ghost use Rattle.bson_encode.specs.Key.{key_of};
-ghost use Rattle.bson_view.specs.Kept.{kept_document};
-ghost use Rattle.bson_view.specs.Views.{document, elem_value};
+ghost use Rattle.bson_value.specs.Spelling.{document_text};
+ghost use Rattle.bson_view.specs.Kept.{kept_bytes, kept_document};
+ghost use Rattle.bson_view.specs.Views.{document, elem_value, view_bytes};
 ghost use Rattle.doc_path.specs.Played.{played_all, touch_of};
 ghost use Rattle.coll_state.specs.Rows.{id_of, key_in};
+ghost use Rattle.spliced_documents.specs.Splicing.{IsShortSpelling};
 ghost use Rattle.replay.specs.Splicing.{IsThere, IsPut, IsTaken, IsPlayed, IsPlayedAlone, stays_within};
 
 use crate::fields::{common_field, only_field, taken_field};
@@ -44,6 +46,7 @@ fn has_id(view: &View<'_>, id: &Value) -> bool
 fn own_view<'s>(state: &'s State, ns: &NsName, id: &Value) -> Option<View<'s>>
     ensures there { IfSome result (λ v. IsThere ns.now id.now state.now (document v)) }
     ensures levels { IfSome result (λ v. levels_of (document v) ≤ 100) }
+    ensures text { IfSome result (λ v. view_bytes v ≡ document_text (document v)) }
 {
     let Held::Spelled(view) = state.get(ns, id)? else {
         return None;
@@ -61,7 +64,8 @@ fn put_field(
     name: &CText,
     value: &Value,
 ) -> Result<Option<DocumentBytes>, AllocError>
-    ensures { IfOk result (λ o. IfSome o (λ b. IsPut ns.now id.now name.now value.now state.now (kept_document b))) }
+    ensures put { IfOk result (λ o. IfSome o (λ b. IsPut ns.now id.now name.now value.now state.now (kept_document b))) }
+    ensures spelling { IfOk result (λ o. IfSome o (λ b. IsShortSpelling (kept_bytes b) (kept_document b))) }
 {
     match own_view(state, ns, id) {
         Some(view) => with_field(alloc, &view, name, value),
@@ -78,7 +82,8 @@ fn take_field(
     id: &Value,
     name: &CText,
 ) -> Result<Option<DocumentBytes>, AllocError>
-    ensures { IfOk result (λ o. IfSome o (λ b. IsTaken ns.now id.now name.now state.now (kept_document b))) }
+    ensures taken { IfOk result (λ o. IfSome o (λ b. IsTaken ns.now id.now name.now state.now (kept_document b))) }
+    ensures spelling { IfOk result (λ o. IfSome o (λ b. IsShortSpelling (kept_bytes b) (kept_document b))) }
 {
     match own_view(state, ns, id) {
         Some(view) => without_field(alloc, &view, name.as_str()),
@@ -112,8 +117,10 @@ fn play_field(
     touches: &List<Touch>,
 ) -> Result<Option<DocumentBytes>, AllocError>
     requires levels { levels_of (document view.now) ≤ 100 }
+    requires text { view_bytes view.now ≡ document_text (document view.now) }
     requires within { IsTrue (list_all (stays_within name.now) touches.now) }
-    ensures { IfOk result (λ o. IfSome o (λ b. Object (kept_document b) ≡ played_all form (map touch_of touches.now) (Object (document view.now)))) }
+    ensures spelling { IfOk result (λ o. IfSome o (λ b. IsShortSpelling (kept_bytes b) (kept_document b))) }
+    ensures played { IfOk result (λ o. IfSome o (λ b. Object (kept_document b) ≡ played_all form (map touch_of touches.now) (Object (document view.now)))) }
 {
     let Some(elem) = view.field(name.as_str()) else {
         return Ok(None);
@@ -134,7 +141,8 @@ fn play_within(
     form: Form,
     touches: &List<Touch>,
 ) -> Result<Option<DocumentBytes>, AllocError>
-    ensures { IfOk result (λ o. IfSome o (λ b. IsPlayed ns.now id.now form touches.now state.now (kept_document b))) }
+    ensures played { IfOk result (λ o. IfSome o (λ b. IsPlayed ns.now id.now form touches.now state.now (kept_document b))) }
+    ensures spelling { IfOk result (λ o. IfSome o (λ b. IsShortSpelling (kept_bytes b) (kept_document b))) }
 {
     let Some(name) = common_field(touches.as_slice()) else {
         return Ok(None);
@@ -155,7 +163,8 @@ fn take_or_play(
     form: Form,
     touches: &List<Touch>,
 ) -> Result<Option<DocumentBytes>, AllocError>
-    ensures { IfOk result (λ o. IfSome o (λ b. IsPlayed ns.now id.now form touches.now state.now (kept_document b))) }
+    ensures played { IfOk result (λ o. IfSome o (λ b. IsPlayed ns.now id.now form touches.now state.now (kept_document b))) }
+    ensures spelling { IfOk result (λ o. IfSome o (λ b. IsShortSpelling (kept_bytes b) (kept_document b))) }
 {
     match taken_field(touches.as_slice()) {
         Some(name) => take_field(alloc, state, ns, id, name),
@@ -174,7 +183,8 @@ pub(crate) fn spliced(
     form: Form,
     touches: &List<Touch>,
 ) -> Result<Option<DocumentBytes>, AllocError>
-    ensures { IfOk result (λ o. IfSome o (λ b. IsPlayed ns.now id.now form touches.now state.now (kept_document b))) }
+    ensures played { IfOk result (λ o. IfSome o (λ b. IsPlayed ns.now id.now form touches.now state.now (kept_document b))) }
+    ensures spelling { IfOk result (λ o. IfSome o (λ b. IsShortSpelling (kept_bytes b) (kept_document b))) }
 {
     match only_field(touches.as_slice()) {
         Some((name, value)) => put_field(alloc, state, ns, id, name, value),

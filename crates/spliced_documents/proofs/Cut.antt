@@ -67,11 +67,11 @@ module _ (k b : List ℕ) where
       subst (λ (ps : List Part). AreFields (SpellsValue m) (front_of k ps ++ rest_of k ps) (without k fs)) parts (cut_spelled m k d.0 fs d.2 d.3) in
       (front ++ rest, frame_is (front ++ rest) small, distinct_without k fs d.2, there)
 
-  spells_cut : (fs : List (List ℕ × Value)) → Spells b fs → levels_of fs ≤ 200 → length (cut k b) ≤ 16793600 → SpellsWithin 16793600 200 (cut k b) (without k fs)
+  spells_cut : (fs : List (List ℕ × Value)) → Spells b fs → levels_of fs ≤ 100 → length (cut k b) ≤ 16777216 → SpellsWithin 16777216 100 (cut k b) (without k fs)
   unfolding Spells
   spells_cut fs s le size =
-      let d = document_cut 199 fs (document_within s.1 200 b fs s.2 le) (omega (arith, size)) in
-      record { spells = (omega (arith, size), 200, d); short = size; shallow = document_bound 200 (cut k b) (without k fs) d }
+      let d = document_cut 99 fs (document_within s.1 100 b fs s.2 le) (omega (arith, size)) in
+      record { spells = (omega (arith, size), 100, d); short = size; shallow = document_bound 100 (cut k b) (without k fs) d }
 
   module _ (f r : List ℕ) (is_front : f ≡ front) (is_rest : r ≡ rest ++ 0 ∷ []) where
     pub total_is : length f + length r + 4 ≡ length (cut k b)
@@ -85,7 +85,7 @@ module _ (k b : List ℕ) where
         ∙ ap (λ (z : List ℕ). z ++ 0 ∷ []) (append_assoc c front rest)
 
     -- what the two pieces make
-    pub cut_made : (fs : List (List ℕ × Value)) → Spells b fs → levels_of fs ≤ 200 → (bytes : List ℕ) → length f + length r + 4 ≤ 16793600 → bytes ≡ count_bytes (length f + length r + 4) ++ f ++ r → IsCut k b fs bytes
+    pub cut_made : (fs : List (List ℕ × Value)) → Spells b fs → levels_of fs ≤ 100 → (bytes : List ℕ) → length f + length r + 4 ≤ 16777216 → bytes ≡ count_bytes (length f + length r + 4) ++ f ++ r → IsCut k b fs bytes
     cut_made fs s le bytes short is =
         let whole = joined_is bytes is in
-        (whole, subst (λ (z : List ℕ). SpellsWithin 16793600 200 z (without k fs)) (sym whole) (spells_cut fs s le (omega (arith, short, total_is))))
+        (whole, subst (λ (z : List ℕ). SpellsWithin 16777216 100 z (without k fs)) (sym whole) (spells_cut fs s le (omega (arith, short, total_is))))

@@ -5,3 +5,4 @@ pub mod Joining
 pub mod Shallow
 pub mod Walking
 pub mod Whole
+pub mod Spellings

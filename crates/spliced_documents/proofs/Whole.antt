@@ -17,7 +17,7 @@ use Rattle.spliced_documents.specs.Splicing.{front_of, rest_of, spliced, Fits, I
 use Rattle.spliced_documents.proofs.Distinct.{distinct_put}
 use Rattle.spliced_documents.proofs.Elements.{put_spelled}
 
-body_framed : (body : List ℕ) → body_of (framed body) ≡ body
+pub body_framed : (body : List ℕ) → body_of (framed body) ≡ body
 body_framed body =
     let total = count_bytes (length body + 5) in
     let all = length (framed body) - 5 in
@@ -68,11 +68,11 @@ module _ (k : List ℕ) (v : Value) where
         subst (λ (ps : List Part). AreFields (SpellsValue m) (front_of k ps ++ (own ++ rest_of k ps)) (put k v fs)) parts (put_spelled m k own v one d.0 fs d.3) in
         (front ++ (own ++ rest), frame_is (front ++ (own ++ rest)) small, distinct_put k v fs d.2, there)
 
-    pub spells_put : (fs : List (List ℕ × Value)) → Spells b fs → levels_of fs ≤ 200 → Spells (document_text single) single → levels_of single ≤ 200 → length (spliced k v b) ≤ 16793600 → SpellsWithin 16793600 200 (spliced k v b) (put k v fs)
+    pub spells_put : (fs : List (List ℕ × Value)) → Spells b fs → levels_of fs ≤ 100 → Spells (document_text single) single → levels_of single ≤ 100 → length (spliced k v b) ≤ 16777216 → SpellsWithin 16777216 100 (spliced k v b) (put k v fs)
     unfolding Spells
     spells_put fs s le x lf size =
-        let d = document_put 199 fs (document_within s.1 200 b fs s.2 le) (document_within x.1 200 (document_text single) single x.2 lf) (omega (arith, size)) in
-        record { spells = (omega (arith, size), 200, d); short = size; shallow = document_bound 200 (spliced k v b) (put k v fs) d }
+        let d = document_put 99 fs (document_within s.1 100 b fs s.2 le) (document_within x.1 100 (document_text single) single x.2 lf) (omega (arith, size)) in
+        record { spells = (omega (arith, size), 100, d); short = size; shallow = document_bound 100 (spliced k v b) (put k v fs) d }
 
     -- the value is a part of them
     pub value_within : length (spelled v) ≤ length (spliced k v b)
@@ -83,25 +83,25 @@ module _ (k : List ℕ) (v : Value) where
     alone name formed small = spelling_spells single (((tt, tt), (name, tt)), (formed, tt)) small
 
     -- what the pieces make
-    module _ (fs : List (List ℕ × Value)) (s : Spells b fs) (le : levels_of fs ≤ 200) (name : IsName k) (formed : IsWellFormed v) (shallow : levels_in v ≤ 199) (f r : List ℕ) (is_front : f ≡ front) (is_rest : r ≡ rest ++ 0 ∷ []) where
+    module _ (fs : List (List ℕ × Value)) (s : Spells b fs) (le : levels_of fs ≤ 100) (name : IsName k) (formed : IsWellFormed v) (shallow : levels_in v ≤ 99) (f r : List ℕ) (is_front : f ≡ front) (is_rest : r ≡ rest ++ 0 ∷ []) where
       abbrev pub total : ℕ
       total = length f + length own + length r + 4
 
       total_is : total ≡ length (spliced k v b)
       total_is = omega (arith, whole_size, ap length is_front, ap length is_rest, length-append rest (0 ∷ []))
 
-      made : (bytes : List ℕ) → total ≤ 16793600 → bytes ≡ count_bytes total ++ f ++ own ++ r → IsSpliced k v b fs bytes
+      made : (bytes : List ℕ) → total ≤ 16777216 → bytes ≡ count_bytes total ++ f ++ own ++ r → IsSpliced k v b fs bytes
       made bytes short is =
           let whole : bytes ≡ spliced k v b = is ∙ pieces total f r is_front is_rest refl in
-          let size : length (spliced k v b) ≤ 16793600 = omega (arith, short, total_is) in
+          let size : length (spliced k v b) ≤ 16777216 = omega (arith, short, total_is) in
           let x = alone name formed (omega (arith, size, alone_size, whole_size)) in
-          (whole, subst (λ (z : List ℕ). SpellsWithin 16793600 200 z (put k v fs)) (sym whole) (spells_put fs s le x (omega (arith, shallow, alone_levels)) size))
+          (whole, subst (λ (z : List ℕ). SpellsWithin 16777216 100 z (put k v fs)) (sym whole) (spells_put fs s le x (omega (arith, shallow, alone_levels)) size))
 
-      pub all_made : {E : Type 0} (o : Result (Option (List ℕ)) E) → IfOk o (λ o. IfSome o (λ bytes. bytes ≡ count_bytes total ++ f ++ own ++ r)) → IfOk o (λ o. IsSome o ↔ (total ≤ 16793600)) → IfOk o (λ o. IfSome o (IsSpliced k v b fs))
+      pub all_made : {E : Type 0} (o : Result (Option (List ℕ)) E) → IfOk o (λ o. IfSome o (λ bytes. bytes ≡ count_bytes total ++ f ++ own ++ r)) → IfOk o (λ o. IsSome o ↔ (total ≤ 16777216)) → IfOk o (λ o. IfSome o (IsSpliced k v b fs))
       all_made (Ok (Some bytes)) is fits = made bytes (fits.0 refl) is
       all_made (Ok None) is fits = tt
       all_made (Err e) is fits = tt
 
-      pub all_fit : {E : Type 0} (o : Result (Option (List ℕ)) E) → IfOk o (λ o. IsSome o ↔ (total ≤ 16793600)) → IfOk o (λ o. IsSome o ↔ Fits k v b)
+      pub all_fit : {E : Type 0} (o : Result (Option (List ℕ)) E) → IfOk o (λ o. IsSome o ↔ (total ≤ 16777216)) → IfOk o (λ o. IsSome o ↔ Fits k v b)
       all_fit (Ok o) fits = (λ some. (omega (arith, fits.0 some, total_is), omega (arith, shallow)), λ h. fits.1 (omega (arith, h.0, total_is)))
       all_fit (Err e) fits = tt

@@ -3,8 +3,8 @@ use Rattle.std.specs.Prelude.{◌≡◌, ℕ, ◌<◌, ◌≤◌, List, [], ◌�
 use Rattle.std.specs.Str.{bytes_eq}
 use Rattle.containers.specs.Entries.{put, without}
 use Rattle.bson_value.specs.declared.value.Value.{Value}
-use Rattle.bson_value.specs.Levels.{levels_in}
-use Rattle.bson_value.specs.Spelling.{element, framed, spelling}
+use Rattle.bson_value.specs.Levels.{levels_in, levels_of}
+use Rattle.bson_value.specs.Spelling.{document_text, element, framed, spelling}
 use Rattle.bson_check.specs.Spells.{SpellsWithin}
 use Rattle.bson_view.specs.Parts.{Part, part_bytes, bytes_of, elements_in}
 
@@ -24,11 +24,11 @@ spliced k v bytes = framed (front_of k (elements_in bytes) ++ (element (k, spell
 
 -- they are within the limits
 abbrev pub Fits : List ℕ → Value → List ℕ → Type 0
-Fits k v bytes = (length (spliced k v bytes) ≤ 16793600) × (levels_in v < 200)
+Fits k v bytes = (length (spliced k v bytes) ≤ 16777216) × (levels_in v < 100)
 
 -- these are they, and spell the fields with this one set
 abbrev pub IsSpliced : List ℕ → Value → List ℕ → List (List ℕ × Value) → List ℕ → Type 0
-IsSpliced k v bytes fs new = (new ≡ spliced k v bytes) × SpellsWithin 16793600 200 new (put k v fs)
+IsSpliced k v bytes fs new = (new ≡ spliced k v bytes) × SpellsWithin 16777216 100 new (put k v fs)
 
 -- a document's bytes without this field
 abbrev pub cut : List ℕ → List ℕ → List ℕ
@@ -36,4 +36,10 @@ cut k bytes = framed (front_of k (elements_in bytes) ++ rest_of k (elements_in b
 
 -- these are they, and spell the fields without this one
 abbrev pub IsCut : List ℕ → List ℕ → List (List ℕ × Value) → List ℕ → Type 0
-IsCut k bytes fs new = (new ≡ cut k bytes) × SpellsWithin 16793600 200 new (without k fs)
+IsCut k bytes fs new = (new ≡ cut k bytes) × SpellsWithin 16777216 100 new (without k fs)
+
+-- the bytes are the spelling of the fields, within these limits
+pub record IsShortSpelling (bytes : List ℕ) (fs : List (List ℕ × Value)) : Type 0 where
+  pub text : bytes ≡ document_text fs
+  pub size : length bytes ≤ 16777216
+  pub levels : levels_of fs ≤ 100

@@ -2,16 +2,26 @@
 ghost use Rattle.std.specs.Prelude.{◌≡◌, ◌↔◌, ◌+◌, ◌<◌, ◌≤◌, ◌^◌, ◌++◌, ◌∷◌, [], length, OnOk, IfOk, IfSome, IsSome};
 ghost use Rattle.bson_check.specs.Spells.{IsName, Spells};
 ghost use Rattle.bson_value.specs.Spelling.{count_bytes, element, spelling};
-ghost use Rattle.bson_value.specs.WellFormed.{IsWellFormed};
+ghost use Rattle.bson_value.specs.WellFormed.{AreBytes, IsWellFormed};
 ghost use Rattle.bson_view.specs.Parts.{elements_in};
 ghost use Rattle.bson_view.specs.Views.{document, view_bytes};
 ghost use Rattle.spliced_documents.specs.Splicing.{front_of, rest_of};
 
-use bson_check::MAX_DOCUMENT_BYTES;
 use bson_encode::{put_key, type_of};
 use bson_value::{Bytes, CText, Value};
 use bson_view::View;
 use std::alloc::{AllocError, Global};
+
+/// So many bytes has a document at most that is kept as its spelling.
+pub(crate) const MAX_BYTES: usize = 16_777_216;
+
+/// So many levels has one at most.
+pub(crate) const MAX_LEVELS: usize = 100;
+
+/// Does nothing. Its caller learns that a byte has eight bits.
+pub(crate) fn are_bytes(bytes: &[u8])
+    ensures { AreBytes bytes.now }
+{}
 
 /// Does nothing. Its caller learns that the name has no zero in it, and that the value is well-formed.
 pub(crate) fn are_well_formed(name: &CText, value: &Value)
@@ -65,11 +75,11 @@ pub(crate) fn counted(
 ) -> Result<Option<Bytes>, AllocError>
     requires { length front.now + length rest.now < 2 ^ 31 }
     ensures bytes { IfOk result (λ o. IfSome o (λ b. b ≡ count_bytes (length front.now + length (element (name.now, spelling value.now)) + length rest.now + 4) ++ front.now ++ element (name.now, spelling value.now) ++ rest.now)) }
-    ensures fits { IfOk result (λ o. IsSome o ↔ (length front.now + length (element (name.now, spelling value.now)) + length rest.now + 4 ≤ 16793600)) }
+    ensures fits { IfOk result (λ o. IsSome o ↔ (length front.now + length (element (name.now, spelling value.now)) + length rest.now + 4 ≤ 16777216)) }
 {
     let around = front.len() + name.as_str().len() + rest.len() + 6;
     let len = around.wrapping_add(value.spelling_len());
-    if len > MAX_DOCUMENT_BYTES {
+    if len > MAX_BYTES {
         return Ok(None);
     }
     let mut out = Vec::with_capacity(alloc, len)?;
