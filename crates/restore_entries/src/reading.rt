@@ -147,7 +147,7 @@ fn read_asked(
 }
 
 /// What a document of the oplog is to a restore with this filter and this limit. Where it isn't asked for, only its head
-/// is looked at. The document itself is built only where its entry is none that changes one document.
+/// is looked at. The document is built as a whole only where it is no entry that changes one document, or has a fault.
 pub fn read_entry(
     alloc: Global,
     rules: &Filter,
