@@ -2,3 +2,4 @@ mod Values
 mod Names
 mod Documents
 pub mod Changes
+pub mod Singles

@@ -6,8 +6,9 @@ use Rattle.bson_view.specs.declared.value_ref.ValueRef.{ValueRef}
 use Rattle.bson_view.specs.declared.value_ref.ValueRef.TheVariants as refs
 use Rattle.bson_view.specs.Held.{held_document}
 use Rattle.bson_view.specs.HeldWalk.{items_left}
-use Rattle.bson_view.specs.References.{value_meant, str_in, stamp_in as meant_stamp}
+use Rattle.bson_view.specs.References.{value_meant, int_in as meant_int, str_in, stamp_in as meant_stamp}
 use Rattle.entry_model.specs.Reading.{text_in, stamp_in}
+use Rattle.entry_reader.specs.Singles.{int_in}
 
 -- the value, opened
 abbrev opened : ValueRef → Value-F Value
@@ -69,3 +70,10 @@ text_read r v e = text_opened r ∙ ap text_in (sym (opens r) ∙ ap out-Value e
 
 pub stamp_read : (r : ValueRef) (v : Value) → value_meant r ≡ v → meant_stamp r ≡ stamp_in (out-Value v)
 stamp_read r v e = stamp_opened r ∙ ap stamp_in (sym (opens r) ∙ ap out-Value e)
+
+int_opened : (r : ValueRef) → meant_int r ≡ int_in (opened r)
+int_opened (refs.Int z) = refl
+int_opened _ = refl
+
+pub int_read : (r : ValueRef) (v : Value) → value_meant r ≡ v → meant_int r ≡ int_in (out-Value v)
+int_read r v e = int_opened r ∙ ap int_in (sym (opens r) ∙ ap out-Value e)

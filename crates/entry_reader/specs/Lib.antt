@@ -1,3 +1,4 @@
 pub mod Changes
 pub mod Parts
 pub mod Entries
+pub mod Singles

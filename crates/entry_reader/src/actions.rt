@@ -1,13 +1,16 @@
 //! What an insert, a delete and an update do.
-ghost use Rattle.std.specs.Prelude.{◌≡◌, IfOk, option_map};
+ghost use Rattle.std.specs.Prelude.{◌≡◌, ◌∷◌, [], Some, IfOk, option_map};
 ghost use Rattle.bson_value.specs.declared.value.Value.{out-Value};
-ghost use Rattle.bson_view.specs.Views.{elem_value};
+ghost use Rattle.bson_view.specs.Views.{document, elem_value};
+ghost use Rattle.doc_path.specs.declared.parts.Form.TheVariants.{V2};
 ghost use Rattle.entry_model.specs.Reading.{document_in};
 ghost use Rattle.entry_reader.specs.Parts.{put_of, remove_of, update_of, whole_of, delta_of, delta_at, action_of, document_at};
 
 use crate::parts::{built, id, is_whole};
-use bson_value::{Doc, Value};
-use bson_view::Elem;
+use crate::single::only_touch;
+use bson_value::{Doc, List, Value};
+use bson_view::{Elem, View};
+use doc_path::{Form, Touch};
 use entry_model::{Action, EntryFault};
 use oplog_entry::read_delta;
 use std::alloc::{AllocError, Global};
@@ -55,12 +58,41 @@ fn delta_in(alloc: Global, id: Value, o: &Doc) -> Result<Option<Action>, AllocEr
     }
 }
 
-fn delta(alloc: Global, id: Value, o: &Elem<'_>) -> Result<Option<Action>, AllocError>
+// The delta of this touch alone.
+fn delta_of(alloc: Global, id: Value, touch: Touch) -> Result<Option<Action>, AllocError>
+    ensures { IfOk result (λ a. a ≡ Some (Action.Delta id V2 (touch ∷ []))) }
+{
+    let mut touches = List::with_capacity(alloc, 1)?;
+    touches.push(touch)?;
+    Ok(Some(Action::Delta {
+        id,
+        form: Form::V2,
+        touches,
+    }))
+}
+
+// Of the touches of a delta `o` is built, where they are not one of the document itself.
+fn built_delta(alloc: Global, id: Value, o: &Elem<'_>) -> Result<Option<Action>, AllocError>
     ensures { IfOk result (λ a. a ≡ delta_at id (document_in (out-Value (elem_value o.now)))) }
 {
     match built(alloc, o)? {
         Some(doc) => delta_in(alloc, id, &doc),
         None => Ok(None),
+    }
+}
+
+fn delta(
+    alloc: Global,
+    id: Value,
+    o: &Elem<'_>,
+    view: &View<'_>,
+) -> Result<Option<Action>, AllocError>
+    requires { document_in (out-Value (elem_value o.now)) ≡ Some (document view.now) }
+    ensures { IfOk result (λ a. a ≡ delta_at id (document_in (out-Value (elem_value o.now)))) }
+{
+    match only_touch(alloc, view)? {
+        Some(touch) => delta_of(alloc, id, touch),
+        None => built_delta(alloc, id, o),
     }
 }
 
@@ -77,7 +109,7 @@ fn update(alloc: Global, o: &Elem<'_>, o2: &Elem<'_>) -> Result<Option<Action>, 
     if is_whole(&view) {
         whole(alloc, id, o)
     } else {
-        delta(alloc, id, o)
+        delta(alloc, id, o, &view)
     }
 }
 

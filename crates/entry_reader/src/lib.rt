@@ -4,5 +4,6 @@
 mod actions;
 mod entry;
 mod parts;
+mod single;
 
 pub use entry::{EntryView, to_doc};
