@@ -94,3 +94,8 @@ more_behind text rest (x ∷ after) is some e = omega (arith, ap length (sym is 
 
 pub not_behind : (text rest : List ℕ) → ((r : List ℕ) → rest ≢ text ++ r) → rest ≡ text → ⊥
 not_behind text rest missing e = missing [] (e ∙ sym (append-nil text))
+
+-- an empty text stands behind everything
+pub empty_last : (v text : List ℕ) → length text < 1 → (t : List ℕ) × (v ≡ t ++ text)
+empty_last v [] e = (v, sym (append-nil v))
+empty_last v (b ∷ text) e = absurd (omega (arith, e))

@@ -64,8 +64,8 @@ impl<'a> Joined<'a> {
         }
     }
 
-    /// Whether this text stands last.
-    pub fn ends_with(self, text: &[u8]) -> bool
+    // The same, sought from the front.
+    fn ends_behind(self, text: &[u8]) -> bool
         ensures { IsTrue result ↔ ((t : List ℕ) × (whole self.entry ≡ t ++ text.now)) }
     {
         let mut rest = self;
@@ -79,6 +79,17 @@ impl<'a> Joined<'a> {
                 return false;
             };
             rest = next;
+        }
+    }
+
+    /// Whether this text stands last.
+    #[tactic(auto, using(crate::proofs::Search::empty_last))]
+    pub fn ends_with(self, text: &[u8]) -> bool
+        ensures { IsTrue result ↔ ((t : List ℕ) × (whole self.entry ≡ t ++ text.now)) }
+    {
+        match text {
+            [] => true,
+            _ => self.ends_behind(text),
         }
     }
 }

@@ -1,8 +1,8 @@
 use Rattle.std.proofs.Common.{◌≡◌, subst, IsTrue}
 use Rattle.ns_patterns.specs.Search.{whole}
 use Rattle.ns_patterns.proofs.Search.{one_on, more_behind, not_behind}
-use Rattle.ns_patterns.proofs.joined.Joined.ends_with.Goals.{in-Some+else-is_empty, in_default}
-use Rattle.ns_patterns.proofs.joined.Joined.ends_with.Goals as goal
+use Rattle.ns_patterns.proofs.joined.Joined.ends_behind.Goals.{in-Some+else-is_empty, in_default}
+use Rattle.ns_patterns.proofs.joined.Joined.ends_behind.Goals as goal
 
 pub places-preserved : goal.places-preserved
 places-preserved c =
