@@ -6,4 +6,5 @@ pub mod InOrder
 pub mod JsonPieces
 pub mod LeafTexts
 pub mod NumberTexts
+pub mod PlainArrays
 pub mod Texts

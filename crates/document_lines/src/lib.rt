@@ -6,6 +6,7 @@ mod form;
 mod json;
 mod leaves;
 mod lines;
+mod plain;
 mod spelling;
 mod strings;
 

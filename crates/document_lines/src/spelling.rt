@@ -8,6 +8,7 @@ ghost use Rattle.bson_view.specs.Views.{document, elem_part, elem_value, parts_l
 ghost use Rattle.bson_view.specs.Parts.{bytes_of, fields_of, values_of};
 ghost use Rattle.document_lines.specs.Elems.{ordered_elems, in_order, AreBelow};
 
+use crate::plain::is_plain_array;
 use bson_view::{Elem, Elements, View};
 use byte_order::order;
 use itoa::Buffer;
@@ -64,13 +65,27 @@ fn put_value(alloc: Global, out: &mut Vec<u8>, elem: &Elem<'_>) -> Result<(), Al
     elem.spells();
     match elem.tag {
         3 => put_document(alloc, out, elem.elements(), elem.value.len()),
-        4 => put_array(alloc, out, elem.elements(), elem.value.len()),
+        4 => put_array_value(alloc, out, elem),
         15 => put_scoped(alloc, out, elem),
         _ => {
             out.extend_from_slice(elem.value)?;
             Ok(())
         }
     }
+}
+
+// An array that lies as it is spelled in order is copied whole.
+#[cycle(spell)]
+fn put_array_value(alloc: Global, out: &mut Vec<u8>, elem: &Elem<'_>) -> Result<(), AllocError>
+    requires { elem.now.tag ≡ 4 }
+    ensures { OnOk result (out.new.items ≡ out.old.items ++ spelled (ordered (elem_value elem.now))) }
+{
+    elem.spells();
+    if is_plain_array(elem) {
+        out.extend_from_slice(elem.value)?;
+        return Ok(());
+    }
+    put_array(alloc, out, elem.elements(), elem.value.len())
 }
 
 #[cycle(spell)]

@@ -8,6 +8,18 @@ use Rattle.document_lines.proofs.Fields.{fewer_parts}
 use Rattle.document_lines.proofs.InOrder.{of_document, of_array, of_scoped, document_spelled, array_spelled, scoped_spelled, is_leaf, ordered_is, element_put, counted_put}
 use Rattle.document_lines.proofs.spelling.+spell.Goals as goal
 
+pub put_array_value-put_array-requires : goal.put_array_value-put_array-requires
+put_array_value-put_array-requires t c =
+    let e = c.args.elem.now in
+    let k = of_array e.tag e.value.now (elem_value e) c.spells.ensures.spelled (parts_left c.elements.result) c.requires c.elements.ensures in
+    (omega (arith, k.fits), k.fits)
+
+pub put_array_value-returns : goal.put_array_value-returns
+put_array_value-returns t c =
+    let e = c.args.elem.now in
+    let k = of_array e.tag e.value.now (elem_value e) c.spells.ensures.spelled (parts_left c.elements.result) c.requires c.elements.ensures in
+    subst (λ (z : List ℕ). OnOk c.put_array.result (c.put_array.new.out.items ≡ c.args.out.now.items ++ z)) (sym (array_spelled _ _ _ k)) c.put_array.ensures
+
 pub put_element-returns : goal.put_element-returns
 put_element-returns t c =
     let e = c.args.elem.now in
@@ -45,12 +57,6 @@ put_value-returns-in-3 t c =
     let e = c.args.elem.now in
     let k = of_document e.tag e.value.now (elem_value e) c.spells.ensures.spelled (parts_left c.elements.result) c.in-3.is c.elements.ensures in
     subst (λ (z : List ℕ). OnOk c.put_document.result (c.put_document.new.out.items ≡ c.args.out.now.items ++ z)) (sym (document_spelled _ _ _ k)) c.put_document.ensures
-
-pub put_value-returns-in-4 : goal.put_value-returns-in-4
-put_value-returns-in-4 t c =
-    let e = c.args.elem.now in
-    let k = of_array e.tag e.value.now (elem_value e) c.spells.ensures.spelled (parts_left c.elements-in-4.result) c.in-4.is c.elements-in-4.ensures in
-    subst (λ (z : List ℕ). OnOk c.put_array.result (c.put_array.new.out.items ≡ c.args.out.now.items ++ z)) (sym (array_spelled _ _ _ k)) c.put_array.ensures
 
 pub put_value-returns-in_ok-extend_from_slice-in_default :
     goal.put_value-returns-in_ok-extend_from_slice-in_default
