@@ -1,5 +1,5 @@
 -- Collections by their names, after a call of the map that holds them.
-use Rattle.std.proofs.Common.{◌≡◌, suc, List, [], ◌∷◌, Bool, true, false, cond, refl, sym, ap, ◌∙◌, subst, Option, Some, None, inl, inr}
+use Rattle.std.proofs.Common.{◌≡◌, ℕ, suc, List, [], ◌∷◌, Bool, true, false, cond, refl, sym, ap, ◌∙◌, subst, Option, Some, None, inl, inr}
 use Rattle.std.specs.Prelude.{◌⊎◌, option_map, Result, Ok, Err, OnOk, OnErr, IsSome, is_some, T, length, map as each}
 use Rattle.std.specs.Ordering.{eq_by_cmp}
 use Rattle.std.specs.BTreeMap.{is_at, UpdatesBy, IsOrdered}
@@ -17,8 +17,8 @@ use Rattle.bson_value.specs.NamespaceOrder.{namespace_cmp}
 use Rattle.state_model.specs.Keys.{Key, same_ns}
 use Rattle.state_model.proofs.Keys.{ns_total, ns_anti, ns_turn, ns_is}
 use Rattle.state_model.proofs.Maps.{ns_map_same, ns_at_insert, ns_at_remove, ns_insert_same, ns_insert_else, ns_insert_here, ns_remove_else}
-use Rattle.coll_state.specs.Rows.{Row, Table, row_of}
-use Rattle.coll_state.specs.Changes.{Tables, on_found, on_there, document_of, document_in, document_at}
+use Rattle.coll_state.specs.Rows.{Document, Row, Table, row_of}
+use Rattle.coll_state.specs.Changes.{Tables, on_found, on_there, or_fresh, put_table, number_in, number_at, document_of, document_in, document_at}
 use Rattle.coll_state.specs.Stock.{Stock}
 use Rattle.coll_state.specs.Tables.{Stocks, named_tables, tables_in, stock_at}
 use Rattle.coll_state.proofs.Parts.{and_T}
@@ -85,6 +85,14 @@ left m n k old w e up t =
 
 pub not_there : (m : Stocks) (k : NsName) (g : Table → Table) → stock_at m k ≡ None → tables_in m ≡ on_there g k (tables_in m)
 not_there m k g e = ap (λ (o : Option Table). on_found g k o (tables_in m)) (sym (get_absent m k e))
+
+-- a document that stands under a number is put into the collection that is there
+pub put_there : (s : Tables) (n : NsName) (k : Key) (d : Document) (count number : ℕ) → number_at n k s ≡ Some number → on_there (put_table k d) n s ≡ map.insert s n (put_table k d (or_fresh count (map.get s n)))
+put_there s n k d count number e = by (map.get s n) e
+  where
+    by : (o : Option Table) → number_in k o ≡ Some number → on_found (put_table k d) n o s ≡ map.insert s n (put_table k d (or_fresh count o))
+    by None e = cc
+    by (Some t) e = refl
 
 pub on_ok : {A B : Type 0} {P Q : Type 0} (r : Result A B) → (P → Q) → OnOk r P → OnOk r Q
 on_ok (Ok a) f h = f h

@@ -1,5 +1,5 @@
 -- What each call makes of the rows.
-use Rattle.std.specs.Prelude.{ℕ, suc, ◌+◌, List, [], ◌∷◌, fold, not, Bool, Option, Some, None, false, if◌then◌else◌}
+use Rattle.std.specs.Prelude.{ℕ, suc, ◌+◌, List, [], ◌∷◌, fold, not, Bool, Option, Some, None, option_map, false, if◌then◌else◌}
 use Rattle.std.specs.FinMap as map
 use Rattle.bson_value.specs.declared.namespace.NsName.{NsName}
 use Rattle.bson_value.specs.NamespaceOrder.{namespace_cmp}
@@ -125,6 +125,14 @@ document_in k (Some t) = document_of (row_of t.rows k)
 
 abbrev pub document_at : NsName → Key → Tables → Option Document
 document_at n k s = document_in k (map.get s n)
+
+-- the number under which a document stands
+abbrev pub number_in : Key → Option Table → Option ℕ
+number_in k None = None
+number_in k (Some t) = option_map (λ r. r.no) (row_of t.rows k)
+
+abbrev pub number_at : NsName → Key → Tables → Option ℕ
+number_at n k s = number_in k (map.get s n)
 
 abbrev pub rows_after : ℕ → ℕ → Option Table → List Row
 rows_after number n None = []

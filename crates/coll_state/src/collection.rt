@@ -301,8 +301,8 @@ impl Collection {
         self.records.give_up_room();
     }
 
-    // The document in the place of the one under this number.
-    fn replace(&mut self, no: u128, document: KeptDocument)
+    /// The document in the place of the one under this number.
+    pub(crate) fn replace(&mut self, no: u128, document: KeptDocument)
         requires { option_map (λ r. r.no) (row_of self.old.table.rows (key_in (id_of document))) ≡ Some no }
         ensures table { self.new.table ≡ put_table (key_in (id_of document)) document self.old.table }
         ensures room { self.old.room ≡ self.new.room }

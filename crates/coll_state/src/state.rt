@@ -1,15 +1,16 @@
 //! The collections of a server.
-ghost use Rattle.std.specs.Prelude.{length, ◌≡◌, ◌+◌, ◌<◌, ◌^◌, OnOk, OnErr, IfOk, IfSome, is_some, option_map, true, false, None, ◌≢◌, map as each};
+ghost use Rattle.std.specs.Prelude.{length, ◌≡◌, ◌+◌, ◌<◌, ◌^◌, OnOk, OnErr, IfOk, IfSome, is_some, option_map, true, false, Some, None, ◌≢◌, map as each};
 ghost use Rattle.std.specs.Option.{option_copied};
 ghost use Rattle.std.specs.FinMap as map;
 ghost use Rattle.bson_encode.specs.Key.{key_of};
 ghost use Rattle.state_model.specs.States.{no_options};
 ghost use Rattle.coll_state.specs.Rows.{id_of, key_in, AreSound};
-ghost use Rattle.coll_state.specs.Changes.{no_rows, put, remove, create, describe, drop_ns, drop_db, rename, add_index, drop_index, document_at, has_index, rows_after};
+ghost use Rattle.coll_state.specs.Changes.{no_rows, put, remove, create, describe, drop_ns, drop_db, rename, add_index, drop_index, document_at, number_at, has_index, rows_after};
 ghost use Rattle.coll_state.specs.Definitions.{definition_name};
 ghost use Rattle.coll_state.specs.Documents.{documents_by_key};
 ghost use Rattle.coll_state.specs.Walks.{names_left, looks, looks_left};
 ghost use Rattle.bson_value.specs.Spelling.{document_text};
+ghost use Rattle.bson_view.specs.Held.{held_document};
 ghost use Rattle.bson_view.specs.Kept.{kept_bytes, kept_document};
 ghost use Rattle.coll_state.specs.ChangeAll.{AreThere, HaveIds, change_all};
 ghost use Rattle.coll_state.specs.Kept.{is_short, shown, shown_in};
@@ -126,6 +127,20 @@ impl State {
         let collection = tables::get(&self.tables, ns)?;
         match collection.record(id) {
             Some(record) => Some(record.document.look()),
+            None => None,
+        }
+    }
+
+    /// The document of an `_id`, as `get` shows it, and its record number.
+    #[tactic(auto, using(crate::proofs::Records::keyed))]
+    pub fn find(&self, ns: &NsName, id: &Value) -> Option<(u128, Held<'_>)>
+        ensures number { option_map (λ f. f.0) result ≡ number_at ns.now (key_of id.now) self.now.tables }
+        ensures document { option_map (λ f. shown_in f.1) result ≡ option_map shown (document_at ns.now (key_of id.now) self.now.tables) }
+        ensures id { IfSome result (λ f. key_in (id_of (held_document f.1)) ≡ key_of id.now) }
+    {
+        let collection = tables::get(&self.tables, ns)?;
+        match collection.record(id) {
+            Some(record) => Some((record.no, record.document.look())),
             None => None,
         }
     }
@@ -271,6 +286,28 @@ impl State {
         let key = key_in_bytes(alloc, &bytes)?;
         let spelled = KeptDocument::of_spelling(bytes);
         self.put_kept(alloc, ns, key, spelled)
+    }
+
+    fn replace_kept(&mut self, ns: &NsName, number: u128, document: KeptDocument)
+        requires number { number_at ns.now (key_in (id_of document)) self.old.tables ≡ Some number }
+        requires count { self.old.count < 2 ^ 127 }
+        ensures { self.new ≡ put ns.now document self.old }
+    {
+        tables::replace_document(&mut self.tables, ns, number, document);
+        self.count += 1;
+    }
+
+    /// The same in the place of a document of the same `_id`, which stands under this number, as `find` tells it. It
+    /// takes no memory.
+    pub fn replace_spelling(&mut self, ns: &NsName, number: u128, bytes: DocumentBytes)
+        requires number { number_at ns.now (key_in (id_of (kept_document bytes))) self.old.tables ≡ Some number }
+        requires spelling { kept_bytes bytes ≡ document_text (kept_document bytes) }
+        requires short { is_short (kept_document bytes) ≡ true }
+        requires count { self.old.count < 2 ^ 127 }
+        ensures { self.new ≡ put ns.now (kept_document bytes) self.old }
+    {
+        let spelled = KeptDocument::of_spelling(bytes);
+        self.replace_kept(ns, number, spelled);
     }
 
     /// The changes one after the other, all of them or, without memory, none.

@@ -5,7 +5,7 @@ ghost use Rattle.std.specs.Option.{option_copied};
 ghost use Rattle.std.specs.FinMap as map;
 ghost use Rattle.bson_encode.specs.Key.{key_of};
 ghost use Rattle.coll_state.specs.Rows.{row_of, key_in, id_of, Table};
-ghost use Rattle.coll_state.specs.Changes.{put_table, drop_table, fresh_table, described, under_names, or_fresh, put_index, take_index, document_at, has_index, on_there, renamed_in};
+ghost use Rattle.coll_state.specs.Changes.{put_table, drop_table, fresh_table, described, under_names, or_fresh, put_index, take_index, document_at, number_at, has_index, on_there, renamed_in};
 ghost use Rattle.coll_state.specs.Definitions.{definition_name};
 ghost use Rattle.coll_state.specs.Tables.{tables_in, stock_at};
 
@@ -73,6 +73,22 @@ pub(crate) fn put(
             let made = made_with(alloc, incarnation, key, document)?;
             set(tables, alloc, ns, made)
         }
+    }
+}
+
+/// The document in the place of the one under this number.
+pub(crate) fn replace_document(
+    tables: &mut Tables,
+    ns: &NsName,
+    number: u128,
+    document: KeptDocument,
+)
+    requires { number_at ns.now (key_in (id_of document)) (tables_in tables.old) ≡ Some number }
+    ensures { tables_in tables.new ≡ on_there (put_table (key_in (id_of document)) document) ns.now (tables_in tables.old) }
+{
+    match tables.get_mut(ns) {
+        Some(collection) => collection.replace(number, document),
+        None => {}
     }
 }
 
