@@ -1,12 +1,13 @@
 -- What a value is that was read where it lies, by its kind.
 use Rattle.std.proofs.Common.{◌≡◌, refl, sym, ap, ◌∙◌}
+use Rattle.std.specs.Prelude.{ℤ, Option, Some, None, MatchOption}
 use Rattle.bson_value.specs.declared.value.Value.{Value, Value-F, out-Value}
-use Rattle.bson_value.specs.declared.value.Value.TheVariants.{outs-Double, outs-Str, outs-Object, outs-Array, outs-Binary, outs-Undefined, outs-Oid, outs-Bool, outs-Date, outs-Null, outs-Regex, outs-DbPointer, outs-Code, outs-Symbol, outs-ScopedCode, outs-Int, outs-Stamp, outs-Long, outs-Decimal, outs-MinKey, outs-MaxKey}
+use Rattle.bson_value.specs.declared.value.Value.TheVariants.{Int, Null, outs-Double, outs-Str, outs-Object, outs-Array, outs-Binary, outs-Undefined, outs-Oid, outs-Bool, outs-Date, outs-Null, outs-Regex, outs-DbPointer, outs-Code, outs-Symbol, outs-ScopedCode, outs-Int, outs-Stamp, outs-Long, outs-Decimal, outs-MinKey, outs-MaxKey}
 use Rattle.bson_view.specs.declared.value_ref.ValueRef.{ValueRef}
 use Rattle.bson_view.specs.declared.value_ref.ValueRef.TheVariants as refs
 use Rattle.bson_view.specs.Held.{held_document}
 use Rattle.bson_view.specs.HeldWalk.{items_left}
-use Rattle.bson_view.specs.References.{value_meant, int_in as meant_int, str_in, stamp_in as meant_stamp}
+use Rattle.bson_view.specs.References.{value_meant, str_in, stamp_in as meant_stamp}
 use Rattle.entry_model.specs.Reading.{text_in, stamp_in}
 use Rattle.entry_reader.specs.Singles.{int_in}
 
@@ -71,9 +72,7 @@ text_read r v e = text_opened r ∙ ap text_in (sym (opens r) ∙ ap out-Value e
 pub stamp_read : (r : ValueRef) (v : Value) → value_meant r ≡ v → meant_stamp r ≡ stamp_in (out-Value v)
 stamp_read r v e = stamp_opened r ∙ ap stamp_in (sym (opens r) ∙ ap out-Value e)
 
-int_opened : (r : ValueRef) → meant_int r ≡ int_in (opened r)
-int_opened (refs.Int z) = refl
-int_opened _ = refl
-
-pub int_read : (r : ValueRef) (v : Value) → value_meant r ≡ v → meant_int r ≡ int_in (out-Value v)
-int_read r v e = int_opened r ∙ ap int_in (sym (opens r) ∙ ap out-Value e)
+-- an int32 by what its bytes were read as
+pub int_taken : (o : Option ℤ) (v w : Value) → v ≡ w → MatchOption o (v ≡ Null) (λ n. v ≡ Int n) → o ≡ int_in (out-Value w)
+int_taken None v w e h = ap int_in (sym outs-Null ∙ ap out-Value (sym h ∙ e))
+int_taken (Some n) v w e h = ap int_in (sym (outs-Int n) ∙ ap out-Value (sym h ∙ e))

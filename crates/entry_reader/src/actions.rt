@@ -71,7 +71,7 @@ fn delta_of(alloc: Global, id: Value, touch: Touch) -> Result<Option<Action>, Al
     }))
 }
 
-// Of the touches of a delta `o` is built, where they are not one of the document itself.
+// The delta that `o` says, of which the document is built.
 fn built_delta(alloc: Global, id: Value, o: &Elem<'_>) -> Result<Option<Action>, AllocError>
     ensures { IfOk result (λ a. a ≡ delta_at id (document_in (out-Value (elem_value o.now)))) }
 {

@@ -1,13 +1,16 @@
 //! Entries that are read where they lie.
-ghost use Rattle.std.specs.Prelude.{◌≡◌, Some, IfOk, option_map};
+ghost use Rattle.std.specs.Prelude.{◌≡◌, Some, IfOk, IfSome, option_map};
 ghost use Rattle.std.specs.Result.{result_ok};
 ghost use Rattle.bson_view.specs.Views.{document, elem_value};
 ghost use Rattle.entry_model.specs.Written.{Fields};
 ghost use Rattle.entry_model.specs.Reading.{head_of, namespace_of};
 ghost use Rattle.entry_reader.specs.Changes.{change_of};
+ghost use Rattle.entry_reader.specs.FieldDeltas.{IsFieldDelta};
 ghost use Rattle.entry_reader.specs.Parts.{document_at, entry_by, head_by, change_at};
 
 use crate::actions::action;
+use crate::field_delta::{FieldDelta, delta_at};
+use crate::found::Found;
 use crate::parts::{namespace, stamp, text};
 use bson_check::DecodeFault;
 use bson_core::decode;
@@ -16,12 +19,11 @@ use bson_view::{Elem, View};
 use entry_model::{Action, Entry};
 use std::alloc::{AllocError, Global};
 
-/// The fields of a document that say which entry it is.
+/// What is read of a document that says which entry it is.
 #[derive(Clone, Copy)]
 pub struct EntryView<'a> {
-    ts: Option<Elem<'a>>,
-    ns: Option<Elem<'a>>,
-    op: Option<Elem<'a>>,
+    head: Option<(Ts, &'a str)>,
+    op: Option<&'a str>,
     o: Option<Elem<'a>>,
     o2: Option<Elem<'a>>,
 }
@@ -71,16 +73,16 @@ fn change_at(
 impl<'a> EntryView<'a> {
     ghost use Rattle.entry_reader.specs.Entries.{AreFieldsOf};
 
-    /// The fields of this document.
+    /// What is read of this document, in one walk over its elements.
     pub fn of(view: &View<'a>) -> EntryView<'a>
         ensures { AreFieldsOf result (document view.now) }
     {
+        let found = Found::of(view);
         EntryView {
-            ts: view.field("ts"),
-            ns: view.field("ns"),
-            op: view.field("op"),
-            o: view.field("o"),
-            o2: view.field("o2"),
+            head: head_at(stamp(found.ts), text(found.ns)),
+            op: text(found.op),
+            o: found.o,
+            o2: found.o2,
         }
     }
 
@@ -88,7 +90,15 @@ impl<'a> EntryView<'a> {
     pub fn head(&self) -> Option<(Ts, &'a str)>
         ensures { (fs : Fields) → AreFieldsOf self.now fs → option_map (λ h. (h.0, h.1.now)) result ≡ result_ok (head_of fs) }
     {
-        head_at(stamp(self.ts), text(self.ns))
+        self.head
+    }
+
+    /// The delta, where the entry is one that sets one field of the document itself or takes one out. Of others
+    /// nothing is said.
+    pub fn field_delta(&self) -> Option<FieldDelta<'a>>
+        ensures { (fs : Fields) → AreFieldsOf self.now fs → IfSome result (λ d. IsFieldDelta d fs) }
+    {
+        delta_at(self.op, self.o, self.o2)
     }
 
     /// The entry, where it inserts, deletes or updates one document. `None` where it is another, and where it
@@ -96,7 +106,7 @@ impl<'a> EntryView<'a> {
     pub fn change(&self, alloc: Global) -> Result<Option<Entry>, AllocError>
         ensures { (fs : Fields) → AreFieldsOf self.now fs → IfOk result (λ e. e ≡ change_of fs) }
     {
-        change_at(alloc, self.head(), text(self.op), self.o, self.o2)
+        change_at(alloc, self.head, self.op, self.o, self.o2)
     }
 }
 
