@@ -59,7 +59,7 @@ module _ (k b : List ℕ) where
   pub cut_size : length (cut k b) ≡ length front + length rest + 5
   cut_size = omega (arith, framed_len (front ++ rest), length-append front rest)
 
-  document_cut : (m : ℕ) (fs : List (List ℕ × Value)) → IsDocument (suc m) b fs → length (cut k b) < 2 ^ 31 → IsDocument (suc m) (cut k b) (without k fs)
+  pub document_cut : (m : ℕ) (fs : List (List ℕ × Value)) → IsDocument (suc m) b fs → length (cut k b) < 2 ^ 31 → IsDocument (suc m) (cut k b) (without k fs)
   unfolding IsDocument elements_in
   document_cut m fs d small =
       let parts : parts_of d.0 ≡ elements_in b = ap parts_of (sym (in_frame b d.0 d.1).body) in

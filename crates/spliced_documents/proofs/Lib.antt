@@ -1,3 +1,4 @@
+pub mod Nested
 pub mod Cut
 pub mod Distinct
 pub mod Elements
@@ -6,3 +7,4 @@ pub mod Shallow
 pub mod Walking
 pub mod Whole
 pub mod Spellings
+pub mod Leaves

@@ -13,7 +13,7 @@ use Rattle.bson_check.proofs.Height.{document_bound, document_within}
 use Rattle.bson_encode.proofs.Grammar.{frame_is, framed_len, spelling_spells}
 use Rattle.bson_view.specs.Parts.{Part, body_of, elements_in, parts_of, SpellsValue}
 use Rattle.bson_view.proofs.Bodies.{in_frame}
-use Rattle.spliced_documents.specs.Splicing.{front_of, rest_of, spliced, Fits, IsSpliced}
+use Rattle.spliced_documents.specs.Splicing.{enclosed, front_of, placed, rest_of, spliced, Fits, IsSpliced}
 use Rattle.spliced_documents.proofs.Distinct.{distinct_put}
 use Rattle.spliced_documents.proofs.Elements.{put_spelled}
 
@@ -23,6 +23,34 @@ body_framed body =
     let all = length (framed body) - 5 in
     let n : length body ≡ all = omega (arith, framed_len body) in
     ap (λ (z : List ℕ). take all (drop 4 z)) (append_assoc total body (0 ∷ [])) ∙ ap (take all) (drop_at total (body ++ 0 ∷ []) 4 refl) ∙ take_at body (0 ∷ []) all n
+
+-- any element in the place of the one of its name
+module _ (k own b : List ℕ) where
+  abbrev at_front : List ℕ
+  at_front = front_of k (elements_in b)
+
+  abbrev at_rest : List ℕ
+  at_rest = rest_of k (elements_in b)
+
+  pub placed_size : length (placed k own b) ≡ length at_front + length own + length at_rest + 5
+  placed_size = omega (arith, framed_len (at_front ++ (own ++ at_rest)), length-append at_front (own ++ at_rest), length-append own at_rest)
+
+  -- the pieces one after the other
+  pub enclosed_is : (f r : List ℕ) → f ≡ at_front → r ≡ at_rest ++ 0 ∷ [] → enclosed f own r ≡ placed k own b
+  enclosed_is f r is_front is_rest =
+      let n = length f + length own + length r + 4 in
+      let m : n ≡ length (at_front ++ (own ++ at_rest)) + 5 = omega (arith, ap length is_front, ap length is_rest, length-append at_rest (0 ∷ []), length-append at_front (own ++ at_rest), length-append own at_rest) in
+      let c = count_bytes (length (at_front ++ (own ++ at_rest)) + 5) in
+      ap (λ (z : ℕ). count_bytes z ++ f ++ own ++ r) m ∙ ap (λ (z : List ℕ). c ++ z ++ own ++ r) is_front ∙ ap (λ (z : List ℕ). c ++ at_front ++ own ++ z) is_rest
+      ∙ sym (append_assoc (c ++ at_front ++ own) at_rest (0 ∷ [])) ∙ ap (λ (z : List ℕ). z ++ 0 ∷ []) (append_assoc (c ++ at_front) own at_rest ∙ append_assoc c at_front (own ++ at_rest))
+
+  pub document_placed : (m : ℕ) (v : Value) (fs : List (List ℕ × Value)) → AreFields (SpellsValue m) own ((k, v) ∷ []) → IsDocument (suc m) b fs → length (placed k own b) < 2 ^ 31 → IsDocument (suc m) (placed k own b) (put k v fs)
+  unfolding IsDocument elements_in
+  document_placed m v fs one d small =
+      let parts : parts_of d.0 ≡ elements_in b = ap parts_of (sym (in_frame b d.0 d.1).body) in
+      let there : AreFields (SpellsValue m) (at_front ++ (own ++ at_rest)) (put k v fs) =
+      subst (λ (ps : List Part). AreFields (SpellsValue m) (front_of k ps ++ (own ++ rest_of k ps)) (put k v fs)) parts (put_spelled m k own v one d.0 fs d.3) in
+      (at_front ++ (own ++ at_rest), frame_is (at_front ++ (own ++ at_rest)) small, distinct_put k v fs d.2, there)
 
 module _ (k : List ℕ) (v : Value) where
   abbrev single : List (List ℕ × Value)
@@ -48,25 +76,14 @@ module _ (k : List ℕ) (v : Value) where
     rest = rest_of k (elements_in b)
 
     pub whole_size : length (spliced k v b) ≡ length front + length own + length rest + 5
-    whole_size = omega (arith, framed_len (front ++ (own ++ rest)), length-append front (own ++ rest), length-append own rest)
+    whole_size = placed_size k own b
 
-    -- the pieces one after the other
-    pieces : (n : ℕ) (f r : List ℕ) → f ≡ front → r ≡ rest ++ 0 ∷ [] → n ≡ length f + length own + length r + 4 → count_bytes n ++ f ++ own ++ r ≡ spliced k v b
-    pieces n f r is_front is_rest is =
-        let m : n ≡ length (front ++ (own ++ rest)) + 5 = omega (arith, is, ap length is_front, ap length is_rest, length-append rest (0 ∷ []), length-append front (own ++ rest), length-append own rest) in
-        let c = count_bytes (length (front ++ (own ++ rest)) + 5) in
-        ap (λ (z : ℕ). count_bytes z ++ f ++ own ++ r) m ∙ ap (λ (z : List ℕ). c ++ z ++ own ++ r) is_front ∙ ap (λ (z : List ℕ). c ++ front ++ own ++ z) is_rest
-        ∙ sym (append_assoc (c ++ front ++ own) rest (0 ∷ [])) ∙ ap (λ (z : List ℕ). z ++ 0 ∷ []) (append_assoc (c ++ front) own rest ∙ append_assoc c front (own ++ rest))
-
-    document_put : (m : ℕ) (fs : List (List ℕ × Value)) → IsDocument (suc m) b fs → IsDocument (suc m) (document_text single) single → length (spliced k v b) < 2 ^ 31 → IsDocument (suc m) (spliced k v b) (put k v fs)
-    unfolding IsDocument elements_in
+    pub document_put : (m : ℕ) (fs : List (List ℕ × Value)) → IsDocument (suc m) b fs → IsDocument (suc m) (document_text single) single → length (spliced k v b) < 2 ^ 31 → IsDocument (suc m) (spliced k v b) (put k v fs)
+    unfolding IsDocument
     document_put m fs d x small =
         let is : x.0 ≡ own = sym (in_frame (document_text single) x.0 x.1).body ∙ alone_body in
         let one : AreFields (SpellsValue m) own single = subst (λ (z : List ℕ). AreFields (SpellsValue m) z single) is x.3 in
-        let parts : parts_of d.0 ≡ elements_in b = ap parts_of (sym (in_frame b d.0 d.1).body) in
-        let there : AreFields (SpellsValue m) (front ++ (own ++ rest)) (put k v fs) =
-        subst (λ (ps : List Part). AreFields (SpellsValue m) (front_of k ps ++ (own ++ rest_of k ps)) (put k v fs)) parts (put_spelled m k own v one d.0 fs d.3) in
-        (front ++ (own ++ rest), frame_is (front ++ (own ++ rest)) small, distinct_put k v fs d.2, there)
+        document_placed k own b m v fs one d small
 
     pub spells_put : (fs : List (List ℕ × Value)) → Spells b fs → levels_of fs ≤ 100 → Spells (document_text single) single → levels_of single ≤ 100 → length (spliced k v b) ≤ 16777216 → SpellsWithin 16777216 100 (spliced k v b) (put k v fs)
     unfolding Spells
@@ -79,7 +96,7 @@ module _ (k : List ℕ) (v : Value) where
     value_within = omega (arith, whole_size, element_length k v)
 
     -- the element alone is that of a document
-    alone : IsName k → IsWellFormed v → length (document_text single) < 2 ^ 31 → Spells (document_text single) single
+    pub alone : IsName k → IsWellFormed v → length (document_text single) < 2 ^ 31 → Spells (document_text single) single
     alone name formed small = spelling_spells single (((tt, tt), (name, tt)), (formed, tt)) small
 
     -- what the pieces make
@@ -92,7 +109,7 @@ module _ (k : List ℕ) (v : Value) where
 
       made : (bytes : List ℕ) → total ≤ 16777216 → bytes ≡ count_bytes total ++ f ++ own ++ r → IsSpliced k v b fs bytes
       made bytes short is =
-          let whole : bytes ≡ spliced k v b = is ∙ pieces total f r is_front is_rest refl in
+          let whole : bytes ≡ spliced k v b = is ∙ enclosed_is k own b f r is_front is_rest in
           let size : length (spliced k v b) ≤ 16777216 = omega (arith, short, total_is) in
           let x = alone name formed (omega (arith, size, alone_size, whole_size)) in
           (whole, subst (λ (z : List ℕ). SpellsWithin 16777216 100 z (put k v fs)) (sym whole) (spells_put fs s le x (omega (arith, shallow, alone_levels)) size))
