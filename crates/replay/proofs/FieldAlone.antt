@@ -59,8 +59,11 @@ module _ (k : List ℕ) where
   )
 
   module _ (f : Form) where
+    pub walk_below : (o : Option Value) (ps : List Part) (g : Value → Value) (d : Document) (x : Value) → lookup k d ≡ Some x → walk f o (name k ∷ ps) g (Object d) ≡ Object (put_field k (walk f o ps g x) d)
+    walk_below o ps g d x e = rw (takes_field f k d, child-object d k, e) (put_object d k (walk f o ps g x))
+
     below : (o : Option Value) (ps : List Part) (g : Value → Value) → StaysWithin (walk f o (name k ∷ ps) g)
-    below o ps g = (walk f o ps g, λ d x e. rw (takes_field f k d, child-object d k, e) (put_object d k (walk f o ps g x)))
+    below o ps g = (walk f o ps g, walk_below o ps g)
 
     put_there : (ps : List Part) (a : Value) → StaysWithin (play f (touch_at (name k ∷ ps) (Put a)))
     put_there [] a = (λ x. a, λ d x e. set_here f k a d)

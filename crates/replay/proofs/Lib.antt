@@ -1,9 +1,11 @@
 pub mod Ids
 pub mod OneField
 pub mod FieldAlone
+pub mod FieldBelow
 pub mod States
 pub mod Made
 pub mod Calls
 pub mod Folds
 pub mod Faults
 pub mod Spellings
+pub mod OwnField

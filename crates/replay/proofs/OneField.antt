@@ -1,17 +1,12 @@
--- A touch that sets one field of a document or takes one out, and the document's `_id` as its bytes have it.
+-- A touch that sets one field of a document or takes one out.
 use Rattle.std.proofs.Common.{◌≡◌, ℕ, Bool, false, List, [], ◌∷◌, length, get_or, map, refl, sym, ap, subst, ◌∙◌, Option, Some, None, arith}
 use Rattle.std.specs.Prelude.{IfOk, IfSome, Result, Ok, Err}
 use Rattle.std.specs.Str.{bytes_eq}
 use Rattle.containers.specs.Entries.{put as put_field, without}
-use Rattle.bson_value.specs.declared.namespace.NsName.{NsName}
-use Rattle.bson_value.specs.declared.value.Value.{Value, Value-F, out-Value}
+use Rattle.bson_value.specs.declared.value.Value.{Value}
 use Rattle.bson_value.specs.declared.value.Value.TheVariants.{Object}
-use Rattle.bson_value.specs.Spelling.{spelled, tag_of}
-use Rattle.bson_check.specs.Spells.{type_byte}
-use Rattle.bson_encode.specs.Key.{key_of}
 use Rattle.bson_view.specs.declared.document_bytes.DocumentBytes.{DocumentBytes}
 use Rattle.bson_view.specs.Kept.{kept_document}
-use Rattle.bson_view.specs.Meaning.{AreValue, IsLeaf}
 use Rattle.doc_path.specs.declared.parts.Form.{Form}
 use Rattle.doc_path.specs.declared.parts.Form.TheVariants.{V1, V2}
 use Rattle.doc_path.specs.declared.parts.Part.{Part}
@@ -22,8 +17,8 @@ use Rattle.doc_path.specs.Touch.{set_last, unset_last}
 use Rattle.doc_path.specs.Touch.{Touch as Played}
 use Rattle.doc_path.specs.Played.{id_name, played_all, touch_of}
 use Rattle.doc_path.proofs.Steps.{shape-object}
-use Rattle.coll_state.specs.Rows.{Document, Rows}
-use Rattle.replay.specs.Splicing.{SetsField, TakesField, IsPut, IsTaken, IsPlayed}
+use Rattle.coll_state.specs.Rows.{Document}
+use Rattle.replay.specs.Splicing.{SetsField, TakesField, IsPlayed}
 use Rattle.replay.proofs.Ids.{put_object, del_object}
 
 pub set_here : (f : Form) (k : List ℕ) (v : Value) (d : Document) → set_last f (name k) v (Object d) ≡ Object (put_field k v d)
@@ -33,7 +28,7 @@ set_here V2 k v d = rw (shape-object d) (put_object d k v)
 pub sets_field : (k : List ℕ) (v : Value) (fresh : Bool) → bytes_eq k id_name ≡ false → SetsField k v (touch_of (Sets (name k ∷ []) v fresh))
 sets_field k v fresh other f d = sym (rw other (set_here f k v d))
 
-unset_here : (f : Form) (k : List ℕ) (d : Document) → unset_last f (name k) (Object d) ≡ Object (without k d)
+pub unset_here : (f : Form) (k : List ℕ) (d : Document) → unset_last f (name k) (Object d) ≡ Object (without k d)
 unset_here V1 k d = rw (shape-object d) (del_object d k)
 unset_here V2 k d = rw (shape-object d) (del_object d k)
 
@@ -61,19 +56,6 @@ pub only_takes : {A : Type 0} (key : A → List ℕ) (o : Option A) (ts : List T
 only_takes key None ts t is s = tt
 only_takes key (Some n) ts t is s = (touch_of t, ap (map touch_of) is, s)
 
--- ---- a value that holds no others
-
-leaf_type : (x : Value-F Value) → (type_byte x ≡ 3 → ⊥) → (type_byte x ≡ 4 → ⊥) → (type_byte x ≡ 15 → ⊥) → IsLeaf x
-leaf_type (Value-F.Object fs) o a c = o refl
-leaf_type (Value-F.Array vs) o a c = a refl
-leaf_type (Value-F.ScopedCode t fs) o a c = c refl
-leaf_type _ o a c = tt
-
-pub leaf_key : (tag : ℕ) (b : List ℕ) (v : Value) → AreValue tag b v → tag ≡ tag_of v → (IsLeaf (out-Value v) → b ≡ spelled v) → (tag ≡ 3 → ⊥) → (tag ≡ 4 → ⊥) → (tag ≡ 15 → ⊥) → tag ∷ b ≡ key_of v
-leaf_key tag b v value is leaf o a c =
-    let there = leaf_type (out-Value v) (λ e. o (value.kind ∙ e)) (λ e. a (value.kind ∙ e)) (λ e. c (value.kind ∙ e)) in
-    ap (λ (t : ℕ). t ∷ b) is ∙ ap (λ (z : List ℕ). tag_of v ∷ z) (leaf there)
-
 -- ---- the document that is put
 
 pub if_some : {A E : Type 0} (P Q : A → Type 0) → ((x : A) → P x → Q x) → (r : Result (Option A) E) → IfOk r (λ o. IfSome o P) → IfOk r (λ o. IfSome o Q)
@@ -81,15 +63,15 @@ if_some P Q f (Ok (Some x)) p = f x p
 if_some P Q f (Ok None) p = tt
 if_some P Q f (Err e) p = tt
 
-module _ (n : NsName) (v : Value) (s : Rows) where
-  one_played : (f : Form) (k : List ℕ) (a : Value) (ts : List Touch) (e : Document) → (p : Played) × (map touch_of ts ≡ p ∷ []) × SetsField k a p → IsPut n v k a s e → IsPlayed n v f ts s e
-  one_played f k a ts e t is = (is.0, is.1, ap (λ (z : Document). Object z) is.2 ∙ t.2 f is.0 ∙ sym (ap (λ (us : List Played). played_all f us (Object is.0)) t.1))
+module _ (f : Form) (d : Document) (ts : List Touch) where
+  one_played : (k : List ℕ) (a : Value) (e : Document) → (p : Played) × (map touch_of ts ≡ p ∷ []) × SetsField k a p → e ≡ put_field k a d → IsPlayed f ts d e
+  one_played k a e t is = ap (λ (z : Document). Object z) is ∙ t.2 f d ∙ sym (ap (λ (us : List Played). played_all f us (Object d)) t.1)
 
-  pub put_played : {E : Type 0} (f : Form) (k : List ℕ) (a : Value) (ts : List Touch) (r : Result (Option DocumentBytes) E) → (p : Played) × (map touch_of ts ≡ p ∷ []) × SetsField k a p → IfOk r (λ o. IfSome o (λ b. IsPut n v k a s (kept_document b))) → IfOk r (λ o. IfSome o (λ b. IsPlayed n v f ts s (kept_document b)))
-  put_played f k a ts r t is = if_some (λ b. IsPut n v k a s (kept_document b)) (λ b. IsPlayed n v f ts s (kept_document b)) (λ b. one_played f k a ts (kept_document b) t) r is
+  pub put_played : {E : Type 0} (k : List ℕ) (a : Value) (r : Result (Option DocumentBytes) E) → (p : Played) × (map touch_of ts ≡ p ∷ []) × SetsField k a p → IfOk r (λ o. IfSome o (λ b. kept_document b ≡ put_field k a d)) → IfOk r (λ o. IfSome o (λ b. IsPlayed f ts d (kept_document b)))
+  put_played k a r t is = if_some (λ b. kept_document b ≡ put_field k a d) (λ b. IsPlayed f ts d (kept_document b)) (λ b. one_played k a (kept_document b) t) r is
 
-  one_taken : (f : Form) (k : List ℕ) (ts : List Touch) (e : Document) → (p : Played) × (map touch_of ts ≡ p ∷ []) × TakesField k p → IsTaken n v k s e → IsPlayed n v f ts s e
-  one_taken f k ts e t is = (is.0, is.1, ap (λ (z : Document). Object z) is.2 ∙ t.2 f is.0 ∙ sym (ap (λ (us : List Played). played_all f us (Object is.0)) t.1))
+  one_taken : (k : List ℕ) (e : Document) → (p : Played) × (map touch_of ts ≡ p ∷ []) × TakesField k p → e ≡ without k d → IsPlayed f ts d e
+  one_taken k e t is = ap (λ (z : Document). Object z) is ∙ t.2 f d ∙ sym (ap (λ (us : List Played). played_all f us (Object d)) t.1)
 
-  pub taken_played : {E : Type 0} (f : Form) (k : List ℕ) (ts : List Touch) (r : Result (Option DocumentBytes) E) → (p : Played) × (map touch_of ts ≡ p ∷ []) × TakesField k p → IfOk r (λ o. IfSome o (λ b. IsTaken n v k s (kept_document b))) → IfOk r (λ o. IfSome o (λ b. IsPlayed n v f ts s (kept_document b)))
-  taken_played f k ts r t is = if_some (λ b. IsTaken n v k s (kept_document b)) (λ b. IsPlayed n v f ts s (kept_document b)) (λ b. one_taken f k ts (kept_document b) t) r is
+  pub taken_played : {E : Type 0} (k : List ℕ) (r : Result (Option DocumentBytes) E) → (p : Played) × (map touch_of ts ≡ p ∷ []) × TakesField k p → IfOk r (λ o. IfSome o (λ b. kept_document b ≡ without k d)) → IfOk r (λ o. IfSome o (λ b. IsPlayed f ts d (kept_document b)))
+  taken_played k r t is = if_some (λ b. kept_document b ≡ without k d) (λ b. IsPlayed f ts d (kept_document b)) (λ b. one_taken k (kept_document b) t) r is

@@ -1,10 +1,11 @@
 -- A document that is there, with one field set or taken out, and after touches, also those that stay within one field.
-use Rattle.std.specs.Prelude.{◌≡◌, ℕ, List, [], ◌∷◌, length, map, Bool, false, ◌&&◌, nat_lt, Option, Some}
+use Rattle.std.specs.Prelude.{◌≡◌, ℕ, ◌≤◌, List, [], ◌∷◌, length, map, Bool, true, false, ◌&&◌, nat_lt, Option, Some, None}
 use Rattle.std.specs.Str.{bytes_eq}
 use Rattle.containers.specs.Entries.{lookup, put, without}
 use Rattle.bson_value.specs.declared.namespace.NsName.{NsName}
 use Rattle.bson_value.specs.declared.value.Value.{Value}
 use Rattle.bson_value.specs.declared.value.Value.TheVariants.{Object}
+use Rattle.bson_value.specs.Spelling.{document_text}
 use Rattle.bson_encode.specs.Key.{key_of}
 use Rattle.doc_path.specs.declared.parts.Form.{Form}
 use Rattle.doc_path.specs.declared.parts.Part.{Part}
@@ -13,8 +14,10 @@ use Rattle.doc_path.specs.declared.touches.Touch.{Touch}
 use Rattle.doc_path.specs.declared.touches.Touch.TheVariants.{Set as Sets, Unset as Unsets, Resize as Resizes}
 use Rattle.doc_path.specs.Played.{played, played_all, touch_of}
 use Rattle.doc_path.specs.Touch.{Touch as Played}
+use Rattle.spliced_documents.specs.Splicing.{cut, FitsLeaf}
 use Rattle.coll_state.specs.Rows.{Document, Rows, id_of, key_in}
-use Rattle.coll_state.specs.Changes.{document_at}
+use Rattle.coll_state.specs.Changes.{document_at, number_at}
+use Rattle.coll_state.specs.Kept.{is_short}
 
 -- a touch sets this field of a document, in either form
 abbrev pub SetsField : List ℕ → Value → Played → Type 0
@@ -24,21 +27,25 @@ SetsField k v t = (f : Form) (d : Document) → Object (put k v d) ≡ played f 
 abbrev pub TakesField : List ℕ → Played → Type 0
 TakesField k t = (f : Form) (d : Document) → Object (without k d) ≡ played f t (Object d)
 
--- the document of this `_id`
-abbrev pub IsThere : NsName → Value → Rows → Document → Type 0
-IsThere n v s d = (document_at n (key_of v) s.tables ≡ Some d) × (key_in (id_of d) ≡ key_of v)
+-- a touch changes any document like this, in either form
+abbrev pub Changes : (Document → Document → Type 0) → Played → Type 0
+Changes r t = (f : Form) (d e : Document) → r d e → Object e ≡ played f t (Object d)
 
--- it has the field too
-abbrev pub IsPut : NsName → Value → List ℕ → Value → Rows → Document → Type 0
-IsPut n v k a s e = (d : Document) × IsThere n v s d × (e ≡ put k a d)
+-- the document of this `_id`, which stands under this number
+abbrev pub IsThere : NsName → Value → Rows → ℕ → Document → Type 0
+IsThere n v s number d = (document_at n (key_of v) s.tables ≡ Some d) × (number_at n (key_of v) s.tables ≡ Some number) × (key_in (id_of d) ≡ key_of v)
 
--- it no longer has the field
-abbrev pub IsTaken : NsName → Value → List ℕ → Rows → Document → Type 0
-IsTaken n v k s e = (d : Document) × IsThere n v s d × (e ≡ without k d)
+-- none of them is kept as its spelling
+abbrev pub AreBuilt : Option Document → Type 0
+AreBuilt o = (d : Document) → o ≡ Some d → is_short d ≡ false
 
--- the touches are played on it, by the rules of the form
-abbrev pub IsPlayed : NsName → Value → Form → List Touch → Rows → Document → Type 0
-IsPlayed n v f ts s e = (d : Document) × IsThere n v s d × (Object e ≡ played_all f (map touch_of ts) (Object d))
+-- the touches are played on a document, by the rules of the form
+abbrev pub IsPlayed : Form → List Touch → Document → Document → Type 0
+IsPlayed f ts d e = Object e ≡ played_all f (map touch_of ts) (Object d)
+
+-- they are played on the one that is there
+abbrev pub IsPlayedThere : NsName → Value → Form → List Touch → Rows → ℕ → Document → Type 0
+IsPlayedThere n v f ts s number e = (d : Document) × IsThere n v s number d × IsPlayed f ts d e
 
 -- ---- touches within a field
 
@@ -61,3 +68,28 @@ stays_within k (Resizes place n) = is_within k place
 -- what stands in the field after touches on a document that has this value in it, and no other field
 abbrev pub IsPlayedAlone : Form → List Touch → List ℕ → Value → Option Value → Type 0
 IsPlayedAlone f ts k x o = (d : Document) × (Object d ≡ played_all f (map touch_of ts) (Object ((k, x) ∷ []))) × (o ≡ lookup k d)
+
+-- ---- a field that a value is given for, or none
+
+-- the touch sets this field of the document itself to the value, or takes it out where there is none
+abbrev pub SaysField : List ℕ → Option Value → Touch → Type 0
+SaysField k None t = t ≡ Unsets (name k ∷ [])
+SaysField k (Some v) t = (fresh : Bool) × (t ≡ Sets (name k ∷ []) v fresh)
+
+-- a document with the value in this field, or without the field where there is none
+abbrev pub with_value : List ℕ → Option Value → Document → Document
+with_value k None d = without k d
+with_value k (Some v) d = put k v d
+
+-- the document that is there, changed like this
+abbrev pub IsChanged : NsName → Value → List ℕ → Option Value → Rows → ℕ → Document → Type 0
+IsChanged n i k o s number e = (d : Document) × IsThere n i s number d × (e ≡ with_value k o d)
+
+-- a value that is given holds no others, a field may have the name, and the bytes with it, or without the field, are within the limits
+abbrev pub FitsWith : List ℕ → Option Value → List ℕ → Type 0
+FitsWith k None bytes = length (cut k bytes) ≤ 16777216
+FitsWith k (Some v) bytes = FitsLeaf k v bytes
+
+-- the document that is there is kept as its spelling, and is so with the value in this field, or without the field
+abbrev pub FitsThere : NsName → Value → List ℕ → Option Value → Rows → Type 0
+FitsThere n i k o s = (d : Document) × (document_at n (key_of i) s.tables ≡ Some d) × (is_short d ≡ true) × FitsWith k o (document_text d)

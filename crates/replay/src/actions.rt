@@ -9,7 +9,7 @@ ghost use Rattle.coll_state.specs.Rows.{id_of, state_of};
 ghost use Rattle.entry_model.specs.declared.entry.Action.{out-Action};
 ghost use Rattle.replay.specs.Moves.{put_moves, with_id, deltas, options_of, moves_at};
 
-use crate::splicing::spliced;
+use crate::splicing::spliced_own;
 use bson_value::{Doc, List, NsName, Value};
 use coll_state::State;
 use delta_apply::play;
@@ -102,8 +102,11 @@ fn play_touches(
     ensures err { OnErr result (state.new ≡ state.old) }
     ensures count { state.new.count ≤ state.old.count + 1 }
 {
-    match spliced(alloc, state, ns, id, form, touches)? {
-        Some(bytes) => state.put_spelling(alloc, ns, bytes),
+    match spliced_own(alloc, state, ns, id, form, touches)? {
+        Some((number, bytes)) => {
+            state.replace_spelling(ns, number, bytes);
+            Ok(())
+        }
         None => play_built(alloc, state, ns, id, form, touches),
     }
 }
@@ -147,8 +150,9 @@ fn drop_index(state: &mut State, ns: &NsName, name: &str)
     let _ = state.drop_index(ns, name);
 }
 
-/// What the action does, where it is no group and has no definitions.
-pub(crate) fn play_one(
+/// Plays an action that is no group, has no definitions and isn't refused. Any other does nothing. Where memory runs out
+/// nothing has changed.
+pub fn play_one(
     alloc: Global,
     state: &mut State,
     ns: &NsName,

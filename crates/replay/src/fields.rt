@@ -5,7 +5,8 @@ ghost use Rattle.std.specs.Str.{bytes_eq};
 ghost use Rattle.doc_path.specs.declared.parts.Part.TheVariants.{Name};
 ghost use Rattle.doc_path.specs.Played.{id_name, touch_of};
 ghost use Rattle.doc_path.specs.Touch.{Touch as Played};
-ghost use Rattle.replay.specs.Splicing.{SetsField, TakesField, is_named as names_field, is_within as lies_within, stays_within as touches_within};
+ghost use Rattle.spliced_documents.specs.Splicing.{IsCutBelow, IsPutBelow};
+ghost use Rattle.replay.specs.Splicing.{Changes, SetsField, TakesField, is_named as names_field, is_within as lies_within, stays_within as touches_within};
 
 use bson_value::{CText, Value};
 use doc_path::{Part, Place, Touch};
@@ -75,6 +76,69 @@ pub(crate) fn taken_field(touches: &[Touch]) -> Option<&CText>
 {
     match touches {
         [touch] => taken_by(touch),
+        _ => None,
+    }
+}
+
+// The name that a part is.
+fn name_of(part: &Part) -> Option<&CText>
+    ensures { IfSome result (λ n. part.now ≡ Name n.now) }
+{
+    match part {
+        Part::Name(name) => Some(name),
+        Part::Index(_) => None,
+    }
+}
+
+// The two names that a place is. The first one isn't `_id`.
+fn two_names(place: &Place) -> Option<(&CText, &CText)>
+    ensures { IfSome result (λ n. (place.now ≡ Name n.0.now ∷ Name n.1.now ∷ []) × (bytes_eq n.0.now id_name ≡ false)) }
+{
+    match place.parts().as_slice() {
+        [first, last] => Some((other_name(first)?, name_of(last)?)),
+        _ => None,
+    }
+}
+
+// The names and the value of a touch that sets a field of a document that a field holds, but for the `_id`.
+fn set_below(touch: &Touch) -> Option<(&CText, &CText, &Value)>
+    ensures { IfSome result (λ f. Changes (IsPutBelow f.0.now f.1.now f.2.now) (touch_of touch.now)) }
+{
+    match touch {
+        Touch::Set { place, value, .. } => match two_names(place) {
+            Some((field, name)) => Some((field, name, value)),
+            None => None,
+        },
+        Touch::Unset { .. } | Touch::Resize { .. } => None,
+    }
+}
+
+/// The field, and the name and the value of the field of its document that the only touch sets.
+pub(crate) fn only_below(touches: &[Touch]) -> Option<(&CText, &CText, &Value)>
+    ensures { IfSome result (λ f. (t : Played) × (map touch_of touches.now ≡ t ∷ []) × Changes (IsPutBelow f.0.now f.1.now f.2.now) t) }
+{
+    match touches {
+        [touch] => set_below(touch),
+        _ => None,
+    }
+}
+
+// The names of a touch that takes a field out of a document that a field holds, but for the `_id`.
+fn unset_below(touch: &Touch) -> Option<(&CText, &CText)>
+    ensures { IfSome result (λ f. Changes (IsCutBelow f.0.now f.1.now) (touch_of touch.now)) }
+{
+    match touch {
+        Touch::Unset { place } => two_names(place),
+        Touch::Set { .. } | Touch::Resize { .. } => None,
+    }
+}
+
+/// The field, and the name of the field of its document that the only touch takes out.
+pub(crate) fn taken_below(touches: &[Touch]) -> Option<(&CText, &CText)>
+    ensures { IfSome result (λ f. (t : Played) × (map touch_of touches.now ≡ t ∷ []) × Changes (IsCutBelow f.0.now f.1.now) t) }
+{
+    match touches {
+        [touch] => unset_below(touch),
         _ => None,
     }
 }

@@ -4,6 +4,7 @@
 mod actions;
 mod counting;
 mod fault;
+mod field;
 mod fields;
 mod indexes;
 mod laws;
@@ -11,7 +12,10 @@ mod playing;
 mod refusals;
 mod splicing;
 
+pub use actions::play_one;
 pub use counting::item_count;
 pub use fault::ReplayFault;
+pub use field::splice_field;
 pub use laws::made_steps;
 pub use playing::replay;
+pub use refusals::is_config;

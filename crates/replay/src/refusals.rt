@@ -10,7 +10,7 @@ use entry_model::{Action, Entry};
 use std::alloc::Global;
 
 /// Whether the database is `config`, whose entries do nothing.
-pub(crate) fn is_config(ns: &NsName) -> bool
+pub fn is_config(ns: &NsName) -> bool
     ensures { result ≡ is_config ns.now }
 {
     ns.db.as_str() == "config"

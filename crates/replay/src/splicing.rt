@@ -1,93 +1,74 @@
 //! Touches that are played in the bytes of a document.
-ghost use Rattle.std.specs.Prelude.{◌≡◌, ◌≤◌, map, IfOk, IfSome, IsTrue};
+ghost use Rattle.std.specs.Prelude.{◌≡◌, ◌≤◌, true, IfOk, IfSome, IsNone, IsTrue};
 ghost use Rattle.std.specs.List.{list_all};
-ghost use Rattle.bson_value.specs.declared.value.Value.{Object};
 ghost use Rattle.bson_value.specs.Levels.{levels_of};
-ghost use Rattle.bson_encode.specs.Key.{key_of};
 ghost use Rattle.bson_value.specs.Spelling.{document_text};
+ghost use Rattle.bson_encode.specs.Key.{key_of};
 ghost use Rattle.bson_view.specs.Kept.{kept_bytes, kept_document};
-ghost use Rattle.bson_view.specs.Views.{document, elem_value, view_bytes};
-ghost use Rattle.doc_path.specs.Played.{played_all, touch_of};
-ghost use Rattle.coll_state.specs.Rows.{id_of, key_in};
+ghost use Rattle.bson_view.specs.Views.{document, view_bytes};
+ghost use Rattle.coll_state.specs.Changes.{document_at};
+ghost use Rattle.coll_state.specs.Kept.{is_short};
 ghost use Rattle.spliced_documents.specs.Splicing.{IsShortSpelling};
-ghost use Rattle.replay.specs.Splicing.{IsThere, IsPut, IsTaken, IsPlayed, IsPlayedAlone, stays_within};
+ghost use Rattle.replay.specs.Splicing.{AreBuilt, IsThere, IsPlayed, IsPlayedThere, IsPlayedAlone, stays_within};
 
-use crate::fields::{common_field, only_field, taken_field};
-use bson_encode::cmp_key;
-use bson_value::{CText, Doc, List, NsName, Value, type_byte};
-use bson_view::{DocumentBytes, Elem, Held, View};
+use crate::fields::{common_field, only_below, only_field, taken_below, taken_field};
+use bson_value::{CText, Doc, List, NsName, Value};
+use bson_view::{DocumentBytes, Held, View};
 use coll_state::State;
 use delta_apply::play;
 use doc_path::{Form, Touch};
-use spliced_documents::{with_field, without_field};
+use spliced_documents::{with_field, with_field_below, without_field, without_field_below};
 use std::alloc::{AllocError, Global};
 
-// Whether an element is this `_id`. One that holds other values isn't compared.
-fn is_id(own: &Elem<'_>, id: &Value) -> bool
-    ensures { IsTrue result → key_of (elem_value own.now) ≡ key_of id.now }
+/// The document of this `_id` and its number, where it is kept as its spelling.
+pub(crate) fn own_view<'s>(state: &'s State, ns: &NsName, id: &Value) -> Option<(u128, View<'s>)>
+    ensures there { IfSome result (λ f. IsThere ns.now id.now state.now f.0 (document f.1)) }
+    ensures levels { IfSome result (λ f. levels_of (document f.1) ≤ 100) }
+    ensures text { IfSome result (λ f. view_bytes f.1 ≡ document_text (document f.1)) }
+    ensures short { IfSome result (λ f. is_short (document f.1) ≡ true) }
+    ensures others { IsNone result → AreBuilt (document_at ns.now (key_of id.now) state.now.tables) }
 {
-    own.spells();
-    match own.tag {
-        type_byte::DOCUMENT | type_byte::ARRAY | type_byte::SCOPED_CODE => false,
-        tag => cmp_key(id, tag, own.value).is_eq(),
+    match state.find(ns, id)? {
+        (number, Held::Spelled(view)) => Some((number, view)),
+        (_, Held::Built(_)) => None,
     }
 }
 
-fn has_id(view: &View<'_>, id: &Value) -> bool
-    ensures { IsTrue result → key_in (id_of (document view.now)) ≡ key_of id.now }
-{
-    match view.field("_id") {
-        Some(own) => is_id(&own, id),
-        None => false,
-    }
-}
-
-/// The document of this `_id`, where it is kept as its spelling.
-fn own_view<'s>(state: &'s State, ns: &NsName, id: &Value) -> Option<View<'s>>
-    ensures there { IfSome result (λ v. IsThere ns.now id.now state.now (document v)) }
-    ensures levels { IfSome result (λ v. levels_of (document v) ≤ 100) }
-    ensures text { IfSome result (λ v. view_bytes v ≡ document_text (document v)) }
-{
-    let Held::Spelled(view) = state.get(ns, id)? else {
-        return None;
-    };
-    if has_id(&view, id) { Some(view) } else { None }
-}
-
-/// The document with the field, in the bytes of the one that is there. `None` where it isn't kept as its
-/// spelling, or is too large then.
-fn put_field(
+/// The document after the touches, where they are one that takes a field out of a document that a field
+/// holds.
+fn play_unset_below(
     alloc: Global,
-    state: &State,
-    ns: &NsName,
-    id: &Value,
-    name: &CText,
-    value: &Value,
+    view: &View<'_>,
+    form: Form,
+    touches: &List<Touch>,
 ) -> Result<Option<DocumentBytes>, AllocError>
-    ensures put { IfOk result (λ o. IfSome o (λ b. IsPut ns.now id.now name.now value.now state.now (kept_document b))) }
+    requires levels { levels_of (document view.now) ≤ 100 }
+    requires text { view_bytes view.now ≡ document_text (document view.now) }
+    ensures played { IfOk result (λ o. IfSome o (λ b. IsPlayed form touches.now (document view.now) (kept_document b))) }
     ensures spelling { IfOk result (λ o. IfSome o (λ b. IsShortSpelling (kept_bytes b) (kept_document b))) }
 {
-    match own_view(state, ns, id) {
-        Some(view) => with_field(alloc, &view, name, value),
+    match taken_below(touches.as_slice()) {
+        Some((field, name)) => without_field_below(alloc, view, field, name.as_str()),
         None => Ok(None),
     }
 }
 
-/// The document without the field, in the bytes of the one that is there. `None` where it isn't kept as its
-/// spelling.
-fn take_field(
+/// The document after the touches, where they are one that sets a field of a document that a field holds, or
+/// takes one out of it.
+fn play_below(
     alloc: Global,
-    state: &State,
-    ns: &NsName,
-    id: &Value,
-    name: &CText,
+    view: &View<'_>,
+    form: Form,
+    touches: &List<Touch>,
 ) -> Result<Option<DocumentBytes>, AllocError>
-    ensures taken { IfOk result (λ o. IfSome o (λ b. IsTaken ns.now id.now name.now state.now (kept_document b))) }
+    requires levels { levels_of (document view.now) ≤ 100 }
+    requires text { view_bytes view.now ≡ document_text (document view.now) }
+    ensures played { IfOk result (λ o. IfSome o (λ b. IsPlayed form touches.now (document view.now) (kept_document b))) }
     ensures spelling { IfOk result (λ o. IfSome o (λ b. IsShortSpelling (kept_bytes b) (kept_document b))) }
 {
-    match own_view(state, ns, id) {
-        Some(view) => without_field(alloc, &view, name.as_str()),
-        None => Ok(None),
+    match only_below(touches.as_slice()) {
+        Some((field, name, value)) => with_field_below(alloc, view, field, name, value),
+        None => play_unset_below(alloc, view, form, touches),
     }
 }
 
@@ -120,7 +101,7 @@ fn play_field(
     requires text { view_bytes view.now ≡ document_text (document view.now) }
     requires within { IsTrue (list_all (stays_within name.now) touches.now) }
     ensures spelling { IfOk result (λ o. IfSome o (λ b. IsShortSpelling (kept_bytes b) (kept_document b))) }
-    ensures played { IfOk result (λ o. IfSome o (λ b. Object (kept_document b) ≡ played_all form (map touch_of touches.now) (Object (document view.now)))) }
+    ensures played { IfOk result (λ o. IfSome o (λ b. IsPlayed form touches.now (document view.now) (kept_document b))) }
 {
     let Some(elem) = view.field(name.as_str()) else {
         return Ok(None);
@@ -135,21 +116,37 @@ fn play_field(
 /// The document after the touches, where all of them stay within one field that it has.
 fn play_within(
     alloc: Global,
-    state: &State,
-    ns: &NsName,
-    id: &Value,
+    view: &View<'_>,
     form: Form,
     touches: &List<Touch>,
 ) -> Result<Option<DocumentBytes>, AllocError>
-    ensures played { IfOk result (λ o. IfSome o (λ b. IsPlayed ns.now id.now form touches.now state.now (kept_document b))) }
+    requires levels { levels_of (document view.now) ≤ 100 }
+    requires text { view_bytes view.now ≡ document_text (document view.now) }
+    ensures played { IfOk result (λ o. IfSome o (λ b. IsPlayed form touches.now (document view.now) (kept_document b))) }
     ensures spelling { IfOk result (λ o. IfSome o (λ b. IsShortSpelling (kept_bytes b) (kept_document b))) }
 {
-    let Some(name) = common_field(touches.as_slice()) else {
-        return Ok(None);
-    };
-    match own_view(state, ns, id) {
-        Some(view) => play_field(alloc, &view, name, form, touches),
+    match common_field(touches.as_slice()) {
+        Some(name) => play_field(alloc, view, name, form, touches),
         None => Ok(None),
+    }
+}
+
+/// The document after the touches, where all of them stay within one field that it has. Of one touch that
+/// sets a field of a document there, or takes one out of it, nothing is built.
+fn play_below_or_within(
+    alloc: Global,
+    view: &View<'_>,
+    form: Form,
+    touches: &List<Touch>,
+) -> Result<Option<DocumentBytes>, AllocError>
+    requires levels { levels_of (document view.now) ≤ 100 }
+    requires text { view_bytes view.now ≡ document_text (document view.now) }
+    ensures played { IfOk result (λ o. IfSome o (λ b. IsPlayed form touches.now (document view.now) (kept_document b))) }
+    ensures spelling { IfOk result (λ o. IfSome o (λ b. IsShortSpelling (kept_bytes b) (kept_document b))) }
+{
+    match play_below(alloc, view, form, touches)? {
+        Some(document) => Ok(Some(document)),
+        None => play_within(alloc, view, form, touches),
     }
 }
 
@@ -157,37 +154,60 @@ fn play_within(
 /// field that it has.
 fn take_or_play(
     alloc: Global,
-    state: &State,
-    ns: &NsName,
-    id: &Value,
+    view: &View<'_>,
     form: Form,
     touches: &List<Touch>,
 ) -> Result<Option<DocumentBytes>, AllocError>
-    ensures played { IfOk result (λ o. IfSome o (λ b. IsPlayed ns.now id.now form touches.now state.now (kept_document b))) }
+    requires levels { levels_of (document view.now) ≤ 100 }
+    requires text { view_bytes view.now ≡ document_text (document view.now) }
+    ensures played { IfOk result (λ o. IfSome o (λ b. IsPlayed form touches.now (document view.now) (kept_document b))) }
     ensures spelling { IfOk result (λ o. IfSome o (λ b. IsShortSpelling (kept_bytes b) (kept_document b))) }
 {
     match taken_field(touches.as_slice()) {
-        Some(name) => take_field(alloc, state, ns, id, name),
-        None => play_within(alloc, state, ns, id, form, touches),
+        Some(name) => without_field(alloc, view, name.as_str()),
+        None => play_below_or_within(alloc, view, form, touches),
     }
 }
 
 /// The document after the touches, where they are one that sets a field of it or takes one out, or all stay
-/// within one field that it has, and it is kept as its spelling before and within the limits after it. Of
-/// the document that field alone is built.
-pub(crate) fn spliced(
+/// within one field that it has.
+fn spliced(
+    alloc: Global,
+    view: &View<'_>,
+    form: Form,
+    touches: &List<Touch>,
+) -> Result<Option<DocumentBytes>, AllocError>
+    requires levels { levels_of (document view.now) ≤ 100 }
+    requires text { view_bytes view.now ≡ document_text (document view.now) }
+    ensures played { IfOk result (λ o. IfSome o (λ b. IsPlayed form touches.now (document view.now) (kept_document b))) }
+    ensures spelling { IfOk result (λ o. IfSome o (λ b. IsShortSpelling (kept_bytes b) (kept_document b))) }
+{
+    match only_field(touches.as_slice()) {
+        Some((name, value)) => with_field(alloc, view, name, value),
+        None => take_or_play(alloc, view, form, touches),
+    }
+}
+
+/// The number of the document of this `_id` and the document after the touches, where they are one that sets
+/// a field of it or takes one out, or all stay within one field that it has, and it is kept as its spelling
+/// before and within the limits after it. Of the document that field alone is built, and nothing where one
+/// touch sets a field of it, or of a document that a field of it holds.
+pub(crate) fn spliced_own(
     alloc: Global,
     state: &State,
     ns: &NsName,
     id: &Value,
     form: Form,
     touches: &List<Touch>,
-) -> Result<Option<DocumentBytes>, AllocError>
-    ensures played { IfOk result (λ o. IfSome o (λ b. IsPlayed ns.now id.now form touches.now state.now (kept_document b))) }
-    ensures spelling { IfOk result (λ o. IfSome o (λ b. IsShortSpelling (kept_bytes b) (kept_document b))) }
+) -> Result<Option<(u128, DocumentBytes)>, AllocError>
+    ensures played { IfOk result (λ o. IfSome o (λ p. IsPlayedThere ns.now id.now form touches.now state.now p.0 (kept_document p.1))) }
+    ensures spelling { IfOk result (λ o. IfSome o (λ p. IsShortSpelling (kept_bytes p.1) (kept_document p.1))) }
 {
-    match only_field(touches.as_slice()) {
-        Some((name, value)) => put_field(alloc, state, ns, id, name, value),
-        None => take_or_play(alloc, state, ns, id, form, touches),
+    let Some((number, view)) = own_view(state, ns, id) else {
+        return Ok(None);
+    };
+    match spliced(alloc, &view, form, touches)? {
+        Some(bytes) => Ok(Some((number, bytes))),
+        None => Ok(None),
     }
 }

@@ -1,0 +1,9 @@
+use Rattle.std.proofs.Common.{arith}
+use Rattle.spliced_documents.specs.Splicing.{IsPutBelow}
+use Rattle.replay.proofs.FieldBelow.{only_changes}
+use Rattle.replay.proofs.OneField.{only_one}
+use Rattle.replay.proofs.fields.only_below.Goals as goal
+
+pub returns-in-len1 : goal.returns-in-len1
+returns-in-len1 c =
+    only_changes (λ f. IsPutBelow f.0.now f.1.now f.2.now) c.set_below.result c.args.touches.now c.touch-item.result (only_one c.args.touches.now c.touch-item.result (omega (arith, c.in-len1.len_at_least, c.in-len1.len_below)) c.touch-item.is) c.set_below.ensures

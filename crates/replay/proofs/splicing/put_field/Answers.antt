@@ -1,4 +1,0 @@
-use Rattle.replay.proofs.splicing.put_field.Goals as goal
-
-pub returns-in-Some-clause-spelling : goal.returns-in-Some-clause-spelling
-returns-in-Some-clause-spelling c = c.with_field.ensures.spelling c.in-Some.ensures.text
