@@ -3,3 +3,4 @@ mod Plays
 mod Readings
 pub mod Documents
 pub mod Acts
+pub mod FieldDeltas

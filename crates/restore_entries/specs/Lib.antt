@@ -2,3 +2,4 @@ pub mod Cut
 pub mod Documents
 pub mod Oplog
 pub mod Laws
+pub mod FieldDeltas

@@ -45,7 +45,8 @@ fn is_before(limit: Option<Ts>, ts: Ts) -> bool
     }
 }
 
-fn is_asked(limit: Option<Ts>, ts: Ts, text: &str) -> bool
+/// Whether an entry of this head is before the limit, and of another database than `config`.
+pub(crate) fn is_asked(limit: Option<Ts>, ts: Ts, text: &str) -> bool
     ensures { result ≡ is_asked limit (ts, text.now) }
 {
     is_before(limit, ts) && before_dot(text) != "config"
@@ -146,22 +147,24 @@ fn read_asked(
     }
 }
 
-/// What a document of the oplog is to a restore with this filter and this limit. Where it isn't asked for, only its head
-/// is looked at. The document is built as a whole only where it is no entry that changes one document, or has a fault.
+/// What a document of the oplog is to a restore with this filter and this limit, by what is read of it. Where it isn't asked
+/// for, only its head is looked at. The document is built as a whole only where it is no entry that changes one document, or
+/// has a fault.
 pub fn read_entry(
     alloc: Global,
     rules: &Filter,
     limit: Option<Ts>,
+    entry: &EntryView<'_>,
     view: &View<'_>,
 ) -> Result<EntryReading, AllocError>
+    requires { AreFieldsOf entry.now (document view.now) }
     ensures { IfOk result (λ r. r ≡ reading_of rules.now limit (document view.now)) }
 {
-    let entry = EntryView::of(view);
     let Some((ts, text)) = entry.head() else {
         return Ok(EntryReading::Unreadable(None));
     };
     if is_asked(limit, ts, text) {
-        read_asked(alloc, rules, &entry, view, ts, text)
+        read_asked(alloc, rules, entry, view, ts, text)
     } else {
         Ok(EntryReading::Passed)
     }

@@ -11,7 +11,7 @@ ghost use Rattle.restore_entries.specs.Documents.{is_of_document};
 
 use coll_state::{COUNT_LIMIT, State};
 use entry_model::{Action, Entry};
-use replay::{ReplayFault, item_count, replay};
+use replay::{ReplayFault, is_config, item_count, play_one, replay};
 use std::alloc::{AllocError, Global};
 
 // Replays an entry, where the count of the collections allows it.
@@ -43,10 +43,13 @@ pub fn replay_document(alloc: Global, state: &mut State, entry: &Entry) -> Resul
     ensures ok { OnOk result (state_of state.new ≡ replay_all (moves_of entry.now) (state_of state.old)) }
     ensures err { OnErr result (state.new ≡ state.old) }
 {
-    match replay_one(alloc, state, entry) {
-        Ok(()) => Ok(()),
-        Err(_) => Err(AllocError),
+    if is_config(&entry.ns) {
+        return Ok(());
     }
+    if state.count() >= COUNT_LIMIT {
+        return Err(AllocError);
+    }
+    play_one(alloc, state, &entry.ns, &entry.action)
 }
 
 /// Replays entries in their order, up to the first that is refused. The collections are spent where it fails.

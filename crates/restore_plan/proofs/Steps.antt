@@ -1,6 +1,6 @@
 -- What a taking makes of a state, and of what was made of the takings before it.
-use Rattle.std.proofs.Common.{◌≡◌, ℕ, Bool, true, false, cond, List, [], length, refl, sym, ap, ◌∙◌}
-use Rattle.std.specs.Prelude.{Option, Some, None, Result, Ok, Err, OnOk, OnErr, IsOk, IsErr, not, ◌&&◌, ◌==◌, is_some, fold}
+use Rattle.std.proofs.Common.{◌≡◌, ℕ, Bool, true, false, cond, List, [], ◌∷◌, ◌++◌, length, refl, sym, ap, subst, ◌∙◌}
+use Rattle.std.specs.Prelude.{option_map, IfOk, IfSome, IsTrue, Option, Some, None, Result, Ok, Err, OnOk, OnErr, IsOk, IsErr, not, ◌&&◌, ◌==◌, is_some, fold}
 use Rattle.std.specs.BTreeSet.{insert_key}
 use Rattle.std.specs.Result.{result_unwrap_or}
 use Rattle.std.specs.FinMap as map
@@ -18,12 +18,24 @@ use Rattle.metadata_text.specs.Metadata.{metadata_of, Meta}
 use Rattle.state_model.specs.States.{State, Collection, no_options, fresh_collection}
 use Rattle.state_model.proofs.Maps.{ns_map_same}
 use Rattle.state_model.specs.Moves.{Put}
-use Rattle.state_model.specs.Replay.{replay}
+use Rattle.state_model.specs.Replay.{replay, replay_all}
 use Rattle.coll_state.specs.Rows.{Document, Rows, key_in, id_of, collection_of, state_of}
 use Rattle.coll_state.specs.Changes.{no_rows, put, describe, create}
 use Rattle.coll_state.specs.Laws.{PutIsMove, CreateIsMove, DescribedAnew}
 use Rattle.coll_state.proofs.Links.{collection_in, get_collection}
+use Rattle.bson_view.specs.Views.{elem_value}
+use Rattle.doc_path.specs.declared.parts.Form.TheVariants.{V2}
+use Rattle.doc_path.specs.declared.touches.Touch.{Touch}
+use Rattle.entry_model.specs.Written.{Fields}
 use Rattle.entry_model.specs.declared.entry.Entry.{Entry}
+use Rattle.entry_model.specs.declared.entry.Action.{out-Action}
+use Rattle.entry_model.specs.declared.entry.Action.TheVariants as actions
+use Rattle.entry_reader.specs.FieldDeltas.{SaysField}
+use Rattle.entry_reader.specs.declared.field_delta.FieldDelta.{FieldDelta}
+use Rattle.replay.specs.Moves.{moves_of}
+use Rattle.restore_entries.specs.Documents.{is_of_document}
+use Rattle.restore_entries.specs.Oplog.{reading_of}
+use Rattle.restore_entries.specs.FieldDeltas.{IsKeptAs, entry_of_touch}
 use Rattle.restore_filter.specs.Names.{takes, new_name}
 use Rattle.restore_filter.proofs.Names.{names_stay}
 use Rattle.restore_entries.specs.declared.reading.EntryReading.{EntryReading}
@@ -31,7 +43,7 @@ use Rattle.restore_entries.specs.declared.reading.EntryReading.TheVariants.{Pass
 use Rattle.restore_plan.specs.declared.plan.Plan.{Plan}
 use Rattle.restore_plan.specs.Base.{ns_of, is_of_base, named_step, base_step, described_in, made, document_taken, has_id, normal_forms, options_in, definitions_in, oplog_reading, kept_in, entries_in, metadata_fault, id_fault, entry_fault, bad_at}
 use Rattle.restore_plan.proofs.Tests.{both, no_length}
-use Rattle.restore_plan.specs.Taken.{Contents, plays_early, with_entry, ended_with, with_collection, with_taking, unless_bad, and_taking}
+use Rattle.restore_plan.specs.Taken.{Contents, plays_early, with_entry, ended_with, is_ended, is_ripe, with_collection, with_taking, unless_bad, and_taking, IsTakenAs}
 use Rattle.index_build.proofs.Alike.{some_mapped}
 
 -- ---- one taking
@@ -78,6 +90,33 @@ oplog_kept p c d n b r x e is kept same =
     let still : c ≡ with_collection p c (doc n b) = λ i. record { state = state i; entries = c.entries; ended = c.ended } in
     made_by p c d (doc n b) (oplog_fault p n b r e is ∙ ap entry_fault kept)
     (same ∙ ap (λ (k : Contents). with_entry k x) still ∙ ap (fold with_entry (with_collection p c (doc n b))) (sym (oplog_entries p n b r e is ∙ ap kept_in kept)))
+
+-- an entry that was taken already
+pub oplog_taken : (p : Plan) (c d : Contents) (n : NsName) (b : List ℕ) → is_oplog n ≡ true → IsTakenAs c (oplog_reading p b) d → Some d ≡ and_taking p (Some c) (doc n b)
+oplog_taken p c d n b e t = oplog_kept p c d n b (oplog_reading p b) t.0 e refl t.1 t.2
+
+-- a ripe entry of a delta of one field is taken where its state was made
+pub field_taken : (c d : Contents) (r : EntryReading) (n : NsName) (x : FieldDelta) → (length c.entries == 0) ≡ true → is_ended n c.ended ≡ true → IsKeptAs n x r →
+    ((ts : Ts) (t : Touch) → SaysField x.name.now (option_map elem_value x.value) t → d.state ≡ replay_all (moves_of (entry_of_touch ts n x t)) c.state) → d.entries ≡ c.entries → d.ended ≡ c.ended → IsTakenAs c r d
+field_taken c d r n x none ended k made entries ends =
+    let e : Entry = entry_of_touch k.0 n x k.1 in
+    let document : is_of_document (out-Action e.action) ≡ true = ap is_of_document (actions.outs-Delta (elem_value x.id) V2 (k.1 ∷ [])) in
+    let ripe : is_ripe c e ≡ true = rw (none, document, ended) refl in
+    let state = made k.0 k.1 k.2 in
+    (e, k.3, (λ i. record { state = state i; entries = entries i; ended = ends i }) ∙ sym (ap (λ b. cond b (record c { state = replay_all (moves_of e) c.state }) (record c { entries = c.entries ++ e ∷ [] })) ripe))
+
+-- the same of what was read of its fields
+pub field_taken_if : {E : Type 0} (r : Result Bool E) (c d : Contents) (o : Option (NsName × FieldDelta)) (n : NsName) (x : FieldDelta) (P : Fields → Type 0) (reading : Fields → EntryReading) →
+    o ≡ Some (n, x) → (length c.entries == 0) ≡ true → is_ended n c.ended ≡ true → d.entries ≡ c.entries → d.ended ≡ c.ended → ((fs : Fields) → P fs → IfSome o (λ f. IsKeptAs f.0 f.1 (reading fs))) →
+    IfOk r (λ done. IsTrue done → (ts : Ts) (t : Touch) → SaysField x.name.now (option_map elem_value x.value) t → d.state ≡ replay_all (moves_of (entry_of_touch ts n x t)) c.state) →
+    IfOk r (λ done. IsTrue done → (fs : Fields) → P fs → IsTakenAs c (reading fs) d)
+field_taken_if (Err e) c d o n x P reading is none ended entries ends kept made = tt
+field_taken_if (Ok done) c d o n x P reading is none ended entries ends kept made =
+    λ yes fs p. field_taken c d (reading fs) n x none ended (subst (λ (y : Option (NsName × FieldDelta)). IfSome y (λ f. IsKeptAs f.0 f.1 (reading fs))) is (kept fs p)) (made yes) entries ends
+
+-- where entries are replayed, a document of the oplog is what its fields are
+pub taken_as_read : (p : Plan) (c d : Contents) (b : List ℕ) → p.replaying ≡ true → IsTakenAs c (reading_of p.filter p.limit (document_taken b)) d → IsTakenAs c (oplog_reading p b) d
+taken_as_read p c d b e t = (t.0, ap (λ x. cond x (reading_of p.filter p.limit (document_taken b)) Passed) e ∙ t.1, t.2)
 
 pub oplog_unread : (p : Plan) (n : NsName) (b : List ℕ) (r : EntryReading) (ts : Option Ts) → is_oplog n ≡ true → r ≡ oplog_reading p b → r ≡ Unreadable ts → bad_at p (doc n b) ≡ entry_fault (Unreadable ts)
 oplog_unread p n b r ts e is unread = oplog_fault p n b r e is ∙ ap entry_fault unread

@@ -1,5 +1,5 @@
 -- What a restore makes of its takings, as it takes them, and what it makes of all at the end.
-use Rattle.std.specs.Prelude.{ℕ, List, [], ◌∷◌, ◌++◌, length, fold, map as each, Bool, true, false, not, ◌&&◌, ◌==◌, Option, Some, None, option_map, if◌then◌else◌}
+use Rattle.std.specs.Prelude.{◌≡◌, ℕ, List, [], ◌∷◌, ◌++◌, length, fold, map as each, Bool, true, false, not, ◌&&◌, ◌==◌, Option, Some, None, option_map, if◌then◌else◌}
 use Rattle.std.specs.List.{list_any}
 use Rattle.std.specs.BTreeMap.{is_at}
 use Rattle.std.specs.BTreeSet.{insert_key}
@@ -17,6 +17,8 @@ use Rattle.entry_model.specs.declared.entry.Action.{out-Action}
 use Rattle.replay.specs.Moves.{moves_of}
 use Rattle.replay.specs.Refusals.{first, first_refused}
 use Rattle.restore_entries.specs.Documents.{is_of_document}
+use Rattle.restore_entries.specs.declared.reading.EntryReading.{EntryReading}
+use Rattle.restore_entries.specs.declared.reading.EntryReading.TheVariants.{Kept}
 use Rattle.index_build.specs.Faults.{fault}
 use Rattle.restore_plan.specs.declared.plan.Plan.{Plan}
 use Rattle.restore_plan.specs.declared.fault.RestoreFault.{RestoreFault}
@@ -52,6 +54,10 @@ is_ripe c e = length c.entries == 0 && is_of_document (out-Action e.action) && i
 
 abbrev pub with_entry : Contents → Entry → Contents
 with_entry c e = if is_ripe c e then record c { state = replay_all (moves_of e) c.state } else record c { entries = c.entries ++ e ∷ [] }
+
+-- an entry is kept, and these contents have become those with it
+abbrev pub IsTakenAs : Contents → EntryReading → Contents → Type 0
+IsTakenAs c r d = (e : Entry) × (r ≡ Kept e) × (d ≡ with_entry c e)
 
 -- an end is noted of a collection that is there
 abbrev pub is_noted : Plan → State → NsName → Bool

@@ -4,7 +4,6 @@ ghost use Rattle.restore_plan.specs.Taken.{contents_of, Contents, nothing, stops
 
 use crate::collections::has_id;
 use crate::early::note_end;
-use crate::entries::read_oplog;
 use crate::fault::RestoreFault;
 use crate::plan::Plan;
 use crate::taking::{take_document, take_end, take_metadata};
@@ -155,14 +154,15 @@ impl DocTaker for Restore {
 
     fn doc(&mut self, ns: &NsName, bytes: &[u8]) -> Result<(), Halt> {
         if is_oplog(ns) {
-            return match read_oplog(self.alloc, &self.plan, bytes) {
+            return match self.read_or_take(bytes) {
                 Err(_) => Err(self.starve()),
-                Ok(EntryReading::Passed) => Ok(()),
-                Ok(EntryReading::Kept(entry)) => {
+                Ok(None) => Ok(()),
+                Ok(Some(EntryReading::Passed)) => Ok(()),
+                Ok(Some(EntryReading::Kept(entry))) => {
                     let taken = self.take_entry(entry);
                     self.told(taken)
                 }
-                Ok(EntryReading::Unreadable(ts)) => Err(self.stop_at_entry(ts)),
+                Ok(Some(EntryReading::Unreadable(ts))) => Err(self.stop_at_entry(ts)),
             };
         }
         if !has_id(bytes) {
