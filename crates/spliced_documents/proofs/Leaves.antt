@@ -7,12 +7,12 @@ use Rattle.bson_value.specs.declared.value.Value.{Value, Value-F, out-Value}
 use Rattle.bson_value.specs.Levels.{levels_of}
 use Rattle.bson_value.specs.Spelling.{Typed, element, spelled, spelling, tag_of}
 use Rattle.bson_value.specs.WellFormed.{IsName}
-use Rattle.bson_check.specs.Spells.{type_byte, AreBytesOf, IsArray, IsDocument, Spells, SpellsWithin}
+use Rattle.bson_check.specs.Spells.{type_byte, AreBytesOf, AreFields, IsArray, IsDocument, Spells, SpellsWithin}
 use Rattle.containers.specs.Entries.{put}
 use Rattle.bson_view.specs.Meaning.{AreValue, IsLeaf}
 use Rattle.bson_view.specs.Parts.{elements_in, SpellsValue}
 use Rattle.spliced_documents.specs.Splicing.{enclosed, front_of, placed, rest_of, spliced, IsSpliced}
-use Rattle.spliced_documents.proofs.Nested.{value_spells}
+use Rattle.spliced_documents.proofs.Nested.{one_field, value_spells}
 use Rattle.spliced_documents.proofs.Whole.{enclosed_is, placed_size}
 
 -- ---- which ones they are
@@ -55,16 +55,26 @@ at_any_level n m b (Value-F.Str d) l s = s
 at_any_level n m b (Value-F.Binary u d) l s = s
 at_any_level n m b _ l s = s
 
+module _ (k : List ℕ) (v : Value) (t : ℕ) (bytes : List ℕ) (value : AreValue t bytes v) (tag : t ≡ tag_of v) (leaf : IsLeaf (out-Value v)) (is : IsLeaf (out-Value v) → bytes ≡ spelled v) where
+  pub leaf_typed : (t, bytes) ≡ spelling v
+  leaf_typed = ap (λ (u : ℕ). (u, bytes)) tag ∙ ap (λ (z : List ℕ). (tag_of v, z)) (is leaf)
+
+  pub leaf_placed : (b : List ℕ) → placed k (element (k, (t, bytes))) b ≡ spliced k v b
+  leaf_placed b = ap (λ (u : Typed). placed k (element (k, u)) b) leaf_typed
+
+  pub leaf_spells : (n : ℕ) → SpellsValue n bytes v
+  leaf_spells n = at_any_level value.levels n bytes (out-Value v) leaf value.spells
+
+  pub leaf_field : (n : ℕ) → IsName k → AreFields (SpellsValue n) (element (k, (t, bytes))) ((k, v) ∷ [])
+  leaf_field n name = one_field n k t bytes v name value.kind (leaf_spells n)
+
 module _ (k : List ℕ) (v : Value) (b : List ℕ) (fs : List (List ℕ × Value)) (s : Spells b fs) (le : levels_of fs ≤ 100) (name : IsName k) (t : ℕ) (bytes : List ℕ) (value : AreValue t bytes v) (tag : t ≡ tag_of v) (leaf : IsLeaf (out-Value v)) (is : IsLeaf (out-Value v) → bytes ≡ spelled v)
     (front rest : List ℕ) (is_front : front ≡ front_of k (elements_in b)) (is_rest : rest ≡ rest_of k (elements_in b) ++ 0 ∷ []) where
   abbrev own : List ℕ
   own = element (k, (t, bytes))
 
-  typed : (t, bytes) ≡ spelling v
-  typed = ap (λ (u : ℕ). (u, bytes)) tag ∙ ap (λ (z : List ℕ). (tag_of v, z)) (is leaf)
-
   placed_is : placed k own b ≡ spliced k v b
-  placed_is = ap (λ (u : Typed). placed k (element (k, u)) b) typed
+  placed_is = leaf_placed k v t bytes value tag leaf is b
 
   all_is : enclosed front own rest ≡ spliced k v b
   all_is = enclosed_is k own b front rest is_front is_rest ∙ placed_is

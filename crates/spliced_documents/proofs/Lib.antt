@@ -8,3 +8,6 @@ pub mod Walking
 pub mod Whole
 pub mod Spellings
 pub mod Leaves
+pub mod Counting
+pub mod Items
+pub mod ItemPut

@@ -1,8 +1,9 @@
 -- A document in which a field of the document that a field holds is set.
-use Rattle.std.proofs.Common.{◌≡◌, ℕ, ◌+◌, ◌<◌, ◌≤◌, ◌^◌, Bool, true, false, List, [], ◌∷◌, ◌++◌, length, map, refl, sym, ap, subst, ◌∙◌, append_assoc, arith, Option, Some, None, Result, Ok, Err}
+use Rattle.std.proofs.Common.{◌≡◌, ℕ, zero, suc, ◌+◌, ◌<◌, ◌≤◌, ◌^◌, Bool, true, false, List, [], ◌∷◌, ◌++◌, length, map, refl, sym, ap, subst, ◌∙◌, append_assoc, arith, Option, Some, None, Result, Ok, Err}
 use Rattle.std.specs.Prelude.{◌↔◌, if◌then◌else◌, IfOk, IfSome, IsSome}
 use Rattle.std.specs.Str.{bytes_eq}
 use Rattle.std.proofs.lemmas.List.{append-nil, length-append}
+use Rattle.std.proofs.lemmas.Slice.Eq.{bytes_eq-Decides}
 use Rattle.containers.specs.Entries.{lookup, put, without}
 use Rattle.bson_value.specs.declared.value.Value.{Value, Value-F, fold-roll-Value, out-Value, roll-Value, roll-out-Value}
 use Rattle.bson_value.specs.declared.value.Value.TheVariants.{Object, outs-Object, rolls-Object}
@@ -30,12 +31,29 @@ object_spelling : (fs : Fields) → spelling (Object fs) ≡ (3, document_text f
 object_spelling fs = ap (λ (v : Value). spelling v) (sym (rolls-Object fs)) ∙ fold-roll-Value Typed spelling_step (Value-F.Object fs)
 
 -- a field has no more levels than the document below its own
-field_levels : (k : List ℕ) (fs : Fields) (x : Value) → lookup k fs ≡ Some x → levels_in x ≤ largest (map (λ e. levels_in e.1) fs)
+pub field_levels : (k : List ℕ) (fs : Fields) (x : Value) → lookup k fs ≡ Some x → levels_in x ≤ largest (map (λ e. levels_in e.1) fs)
 field_levels k [] x h = absurd cc
 field_levels k (e ∷ es) x h = go (bytes_eq e.0 k) h (field_levels k es x) where
   go : (r : Bool) → (if r then Some e.1 else lookup k es) ≡ Some x → (lookup k es ≡ Some x → levels_in x ≤ largest (map (λ e. levels_in e.1) es)) → levels_in x ≤ largest (map (λ e. levels_in e.1) (e ∷ es))
   go true h later = let same : e.1 ≡ x = cc in omega (arith, ap (λ (v : Value). levels_in v) same)
   go false h later = omega (arith, later h)
+
+-- a field that is found has a name
+found_in : (n : ℕ) (b : List ℕ) (fs : Fields) → AreFields (SpellsValue n) b fs → (k : List ℕ) (x : Value) → lookup k fs ≡ Some x → IsName k
+found_in n b [] s k x h = absurd cc
+found_in n b (e ∷ es) s k x h = go (bytes_eq e.0 k) refl h (found_in n s.1 es s.4 k x) where
+  go : (r : Bool) → bytes_eq e.0 k ≡ r → (if r then Some e.1 else lookup k es) ≡ Some x → (lookup k es ≡ Some x → IsName k) → IsName k
+  go true is at later = subst IsName ((bytes_eq-Decides e.0 k).0 is) s.2
+  go false is at later = later at
+
+found_at : (n : ℕ) (b : List ℕ) (fs : Fields) → IsDocument n b fs → (k : List ℕ) (x : Value) → lookup k fs ≡ Some x → IsName k
+unfolding IsDocument
+found_at zero b fs d k x h = absurd d
+found_at (suc n) b fs d k x h = found_in n d.0 fs d.3 k x h
+
+pub found_name : (b : List ℕ) (fs : Fields) → Spells b fs → (k : List ℕ) (x : Value) → Some x ≡ lookup k fs → IsName k
+unfolding Spells
+found_name b fs s k x h = found_at s.1 b fs s.2 k x (sym h)
 
 -- the document that bytes of its type are
 pub record Inner (b : List ℕ) (x : Value) : Type 0 where
@@ -71,6 +89,12 @@ document_frame b ps x v s = frame_at b ps (out-Value x) v.kind s
 
 -- ---- another value in a field
 
+-- a value's bytes behind a type and a name
+pub one_field : (n : ℕ) (f : List ℕ) (t : ℕ) (new : List ℕ) (w : Value) → IsName f → t ≡ type_byte (out-Value w) → SpellsValue n new w → AreFields (SpellsValue n) (element (f, (t, new))) ((f, w) ∷ [])
+one_field n f t new w name tag spells =
+    let rest : f ++ 0 ∷ new ≡ (f ++ 0 ∷ []) ++ (new ++ []) = ap (λ (z : List ℕ). f ++ 0 ∷ z) (sym (append-nil new)) ∙ sym (append_assoc f (0 ∷ []) (new ++ [])) in
+    (new, [], name, spells, refl, ap (λ (u : ℕ). u ∷ (f ++ 0 ∷ new)) tag ∙ ap (λ (z : List ℕ). type_byte (out-Value w) ∷ z) rest)
+
 module _ (f : List ℕ) (t : ℕ) (new : List ℕ) (w : Value) (b : List ℕ) (fs : Fields) where
   abbrev own : List ℕ
   own = element (f, (t, new))
@@ -78,15 +102,10 @@ module _ (f : List ℕ) (t : ℕ) (new : List ℕ) (w : Value) (b : List ℕ) (f
   pub value_size : length (placed f own b) ≡ length (front_of f (elements_in b)) + (length f + length new + 2) + length (rest_of f (elements_in b)) + 5
   value_size = omega (arith, placed_size f own b, length-append f (0 ∷ new))
 
-  own_fields : IsName f → t ≡ type_byte (out-Value w) → SpellsValue 99 new w → AreFields (SpellsValue 99) own ((f, w) ∷ [])
-  own_fields name tag spells =
-      let rest : f ++ 0 ∷ new ≡ (f ++ 0 ∷ []) ++ (new ++ []) = ap (λ (z : List ℕ). f ++ 0 ∷ z) (sym (append-nil new)) ∙ sym (append_assoc f (0 ∷ []) (new ++ [])) in
-      (new, [], name, spells, refl, ap (λ (u : ℕ). u ∷ (f ++ 0 ∷ new)) tag ∙ ap (λ (z : List ℕ). type_byte (out-Value w) ∷ z) rest)
-
   pub value_spells : Spells b fs → levels_of fs ≤ 100 → IsName f → t ≡ type_byte (out-Value w) → SpellsValue 99 new w → length (placed f own b) ≤ 16777216 → SpellsWithin 16777216 100 (placed f own b) (put f w fs)
   unfolding Spells
   value_spells s le name tag spells size =
-      let all = document_placed f own b 99 w fs (own_fields name tag spells) (document_within s.1 100 b fs s.2 le) (omega (arith, size)) in
+      let all = document_placed f own b 99 w fs (one_field 99 f t new w name tag spells) (document_within s.1 100 b fs s.2 le) (omega (arith, size)) in
       record { spells = (omega (arith, size), 100, all); short = size; shallow = document_bound 100 (placed f own b) (put f w fs) all }
 
   pub value_text : Spells b fs → AreBytes b → (t, new) ≡ spelling w → b ≡ document_text fs → placed f own b ≡ document_text (put f w fs)
@@ -171,6 +190,15 @@ module _ (f inner b : List ℕ) (x : Value) (fs : Fields) (s : Spells b fs) (le 
 
     pub put_made : length (spliced_below f k v inner b) ≤ 16777216 → SpellsNew (IsPutBelow f k v fs) b fs (spliced_below f k v inner b)
     put_made = new_made (IsPutBelow f k v fs) (spliced k v inner) (put k v it.fields) (it.fields, found, refl) put_document (λ bytes is. spelling_put k v inner it.fields inner_spells is bytes)
+
+  -- the same with an element that is already spelled
+  module _ (k : List ℕ) (v : Value) (one : List ℕ) (spelled_one : AreFields (SpellsValue 98) one ((k, v) ∷ [])) (is : placed k one inner ≡ spliced k v inner) where
+    one_document : length (spliced k v inner) < 2 ^ 31 → IsDocument 99 (spliced k v inner) (put k v it.fields)
+    one_document small =
+        subst (λ (z : List ℕ). IsDocument 99 z (put k v it.fields)) is (document_placed k one inner 98 v it.fields spelled_one inner_document (subst (λ (z : List ℕ). length z < 2 ^ 31) (sym is) small))
+
+    pub one_made : length (spliced_below f k v inner b) ≤ 16777216 → SpellsNew (IsPutBelow f k v fs) b fs (spliced_below f k v inner b)
+    one_made = new_made (IsPutBelow f k v fs) (spliced k v inner) (put k v it.fields) (it.fields, found, refl) one_document (λ bytes is. spelling_put k v inner it.fields inner_spells is bytes)
 
   pub cut_made : (k : List ℕ) → length (cut_below f k inner b) ≤ 16777216 → SpellsNew (IsCutBelow f k fs) b fs (cut_below f k inner b)
   cut_made k = new_made (IsCutBelow f k fs) (cut k inner) (without k it.fields) (it.fields, found, refl) (document_cut k inner 98 it.fields inner_document) (λ bytes is. spelling_cut k inner it.fields inner_spells is bytes)

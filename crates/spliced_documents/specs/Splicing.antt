@@ -3,8 +3,9 @@ use Rattle.std.specs.Prelude.{◌≡◌, ℕ, ◌+◌, ◌<◌, ◌≤◌, List,
 use Rattle.std.specs.Str.{bytes_eq}
 use Rattle.containers.specs.Entries.{lookup, put, without}
 use Rattle.bson_value.specs.declared.value.Value.{Value, out-Value}
-use Rattle.bson_value.specs.declared.value.Value.TheVariants.{Object}
+use Rattle.bson_value.specs.declared.value.Value.TheVariants.{Array, Object}
 use Rattle.bson_value.specs.Levels.{levels_in, levels_of}
+use Rattle.bson_value.specs.Place.{put_item}
 use Rattle.bson_value.specs.Spelling.{count_bytes, document_text, element, framed, spelling}
 use Rattle.bson_check.specs.Spells.{IsName, Spells, SpellsWithin}
 use Rattle.bson_view.specs.Meaning.{IsLeaf}
@@ -67,6 +68,14 @@ spliced_below f k v inner bytes = placed f (element (f, (3, spliced k v inner)))
 abbrev pub FitsBelow : List ℕ → List ℕ → Value → List ℕ → Type 0
 FitsBelow f k v bytes = (inner : List ℕ) × HoldsDocument f inner bytes × (length (spliced_below f k v inner bytes) ≤ 16777216) × (levels_in v < 99)
 
+-- the same of a value that holds no others
+abbrev pub FitsCopyBelow : List ℕ → List ℕ → Value → List ℕ → Type 0
+FitsCopyBelow f k v bytes = (inner : List ℕ) × HoldsDocument f inner bytes × (length (spliced_below f k v inner bytes) ≤ 16777216)
+
+-- the value holds no others, a field may have the name, the field f holds a document, and they are within the limits
+abbrev pub FitsLeafBelow : List ℕ → List ℕ → Value → List ℕ → Type 0
+FitsLeafBelow f k v bytes = IsLeaf (out-Value v) × IsName k × FitsCopyBelow f k v bytes
+
 -- these are they
 abbrev pub AreSplicedBelow : List ℕ → List ℕ → Value → List ℕ → List ℕ → Type 0
 AreSplicedBelow f k v bytes new = (inner : List ℕ) × HoldsDocument f inner bytes × (new ≡ spliced_below f k v inner bytes)
@@ -87,6 +96,29 @@ AreCutBelow f k bytes new = (inner : List ℕ) × HoldsDocument f inner bytes ×
 
 abbrev pub IsCutBelow : List ℕ → List ℕ → List (List ℕ × Value) → List (List ℕ × Value) → Type 0
 IsCutBelow f k fs new = (gs : List (List ℕ × Value)) × (lookup f fs ≡ Some (Object gs)) × (new ≡ put f (Object (without k gs)) fs)
+
+-- ---- an element of the array that a field holds
+
+-- these elements are parted at an index: the bytes of those before it, its name, and the bytes of those behind it with the last zero
+pub record IsParted (n : ℕ) (ps : List Part) (front name rest : List ℕ) : Type 0 where
+  pub before : List Part
+  pub part : Part
+  pub behind : List Part
+  pub parts : ps ≡ before ++ part ∷ behind
+  pub count : length before ≡ n
+  pub front_is : front ≡ bytes_of before
+  pub name_is : name ≡ part.name
+  pub rest_is : rest ≡ bytes_of behind ++ 0 ∷ []
+
+-- the field f of these fields holds an array with an element at the index n, and the new ones are they with the value in its place
+abbrev pub IsItemPut : List ℕ → ℕ → Value → List (List ℕ × Value) → List (List ℕ × Value) → Type 0
+IsItemPut f n v fs new = (xs : List Value) × (lookup f fs ≡ Some (Array xs)) × (n < length xs) × (new ≡ put f (Array (put_item xs n v)) fs)
+
+-- the value holds no others, the field holds an array with an element at the index, and with the value there they are spelled within the limit
+abbrev pub FitsItem : List ℕ → ℕ → Value → List (List ℕ × Value) → Type 0
+FitsItem f n v fs = IsLeaf (out-Value v) × ((xs : List Value) × (lookup f fs ≡ Some (Array xs)) × (n < length xs) × (length (document_text (put f (Array (put_item xs n v)) fs)) ≤ 16777216))
+
+-- ---- what new bytes mean
 
 -- new bytes spell fields that meet this, within the limits, and are their spelling where the bytes were that of their fields
 pub record SpellsNew (meets : List (List ℕ × Value) → Type 0) (bytes : List ℕ) (fs : List (List ℕ × Value)) (new : List ℕ) : Type 0 where

@@ -11,16 +11,16 @@ ghost use Rattle.spliced_documents.specs.Splicing.{cut_below, front_of, rest_of,
 
 use crate::levels::is_shallow;
 use crate::pieces::{
-    MAX_LEVELS, are_bytes, are_well_formed, around, counted_below, is_name, joined_below, parted,
+    MAX_LEVELS, are_bytes, are_well_formed, around, counted_below, joined_below, parted,
 };
 use bson_check::faultless_if_spelled;
 use bson_value::{Bytes, CText, Value, type_byte};
 use bson_view::{DocumentBytes, Elem, View, one_document};
 use std::alloc::{AllocError, Global};
 
-// The elements before the field of this name in the document that the element is, and those behind it with
-// that document's last zero.
-fn around_in<'a>(elem: &Elem<'a>, name: &str) -> (&'a [u8], &'a [u8])
+/// The elements before the field of this name in the document that the element is, and those behind it with
+/// that document's last zero.
+pub(crate) fn around_in<'a>(elem: &Elem<'a>, name: &str) -> (&'a [u8], &'a [u8])
     requires { elem.now.tag ≡ 3 }
     ensures front { result.0.now ≡ front_of name.now (elements_in elem.now.value.now) }
     ensures rest { result.1.now ≡ rest_of name.now (elements_in elem.now.value.now) ++ 0 ∷ [] }
@@ -34,7 +34,7 @@ fn around_in<'a>(elem: &Elem<'a>, name: &str) -> (&'a [u8], &'a [u8])
 fn put_in(
     alloc: Global,
     view: &View<'_>,
-    field: &CText,
+    field: &str,
     elem: &Elem<'_>,
     name: &CText,
     value: &Value,
@@ -50,9 +50,8 @@ fn put_in(
 {
     elem.spells();
     are_bytes(view.bytes());
-    is_name(field);
     are_well_formed(name, value);
-    let outer = around(view, field.as_str());
+    let outer = around(view, field);
     let inner = around_in(elem, name.as_str());
     counted_below(alloc, outer, field, type_byte::DOCUMENT, inner, name, value)
 }
@@ -60,7 +59,7 @@ fn put_in(
 fn put_below(
     alloc: Global,
     view: &View<'_>,
-    field: &CText,
+    field: &str,
     name: &CText,
     value: &Value,
 ) -> Result<Option<Bytes>, AllocError>
@@ -69,7 +68,7 @@ fn put_below(
     ensures new { IfOk result (λ o. IfSome o (SpellsNew (IsPutBelow field.now name.now value.now (document view.now)) (view_bytes view.now) (document view.now))) }
     ensures fits { IfOk result (λ o. IsSome o ↔ FitsBelow field.now name.now value.now (view_bytes view.now)) }
 {
-    let Some(elem) = view.field(field.as_str()) else {
+    let Some(elem) = view.field(field) else {
         return Ok(None);
     };
     if elem.tag != type_byte::DOCUMENT {
@@ -85,7 +84,7 @@ fn put_below(
 fn cut_in(
     alloc: Global,
     view: &View<'_>,
-    field: &CText,
+    field: &str,
     elem: &Elem<'_>,
     name: &str,
 ) -> Result<Option<Bytes>, AllocError>
@@ -99,8 +98,7 @@ fn cut_in(
 {
     elem.spells();
     are_bytes(view.bytes());
-    is_name(field);
-    let outer = around(view, field.as_str());
+    let outer = around(view, field);
     let inner = around_in(elem, name);
     joined_below(alloc, outer, field, type_byte::DOCUMENT, inner)
 }
@@ -108,7 +106,7 @@ fn cut_in(
 fn cut_below(
     alloc: Global,
     view: &View<'_>,
-    field: &CText,
+    field: &str,
     name: &str,
 ) -> Result<Option<Bytes>, AllocError>
     requires { levels_of (document view.now) ≤ 100 }
@@ -116,7 +114,7 @@ fn cut_below(
     ensures new { IfOk result (λ o. IfSome o (SpellsNew (IsCutBelow field.now name.now (document view.now)) (view_bytes view.now) (document view.now))) }
     ensures fits { IfOk result (λ o. IsSome o ↔ FitsCutBelow field.now name.now (view_bytes view.now)) }
 {
-    let Some(elem) = view.field(field.as_str()) else {
+    let Some(elem) = view.field(field) else {
         return Ok(None);
     };
     if elem.tag != type_byte::DOCUMENT {
@@ -125,8 +123,8 @@ fn cut_below(
     cut_in(alloc, view, field, &elem, name)
 }
 
-// The bytes are kept, which spell a document.
-fn kept(bytes: Bytes) -> DocumentBytes
+/// The bytes are kept, which spell a document.
+pub(crate) fn kept(bytes: Bytes) -> DocumentBytes
     requires { IsSomeDocument 16777216 100 bytes }
     ensures bytes { kept_bytes result ≡ bytes }
     ensures document { Means bytes (kept_document result) }
@@ -153,7 +151,7 @@ pub fn with_field_below(
     // Of a spelling it makes one.
     ensures spelling { view_bytes view.now ≡ document_text (document view.now) → IfOk result (λ o. IfSome o (λ b. IsShortSpelling (kept_bytes b) (kept_document b))) }
 {
-    let Some(bytes) = put_below(alloc, view, field, name, value)? else {
+    let Some(bytes) = put_below(alloc, view, field.as_str(), name, value)? else {
         return Ok(None);
     };
     Ok(Some(kept(bytes)))
@@ -165,7 +163,7 @@ pub fn with_field_below(
 pub fn without_field_below(
     alloc: Global,
     view: &View<'_>,
-    field: &CText,
+    field: &str,
     name: &str,
 ) -> Result<Option<DocumentBytes>, AllocError>
     requires { levels_of (document view.now) ≤ 100 }

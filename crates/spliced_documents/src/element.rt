@@ -16,8 +16,8 @@ use bson_value::{Bytes, type_byte};
 use bson_view::{DocumentBytes, Elem, View, one_document};
 use std::alloc::{AllocError, Global};
 
-// Whether the value holds no document and no array.
-fn is_leaf(elem: &Elem<'_>) -> bool
+/// Whether the value holds no document and no array.
+pub(crate) fn is_leaf(elem: &Elem<'_>) -> bool
     ensures { IsTrue result ↔ IsLeaf (out-Value (elem_value elem.now)) }
 {
     elem.spells();
@@ -32,19 +32,19 @@ fn has_zero(text: &str) -> bool
     text.as_bytes().contains(&0)
 }
 
-// Whether a field may have this name.
-fn is_field_name(name: &str) -> bool
+/// Whether a field may have this name.
+pub(crate) fn is_field_name(name: &str) -> bool
     ensures { IsTrue result ↔ IsName name.now }
 {
     !has_zero(name)
 }
 
-// Appends the value under this name. After an error a part of it may stand behind what was there.
-fn put_named(out: &mut Vec<u8>, name: &str, elem: &Elem<'_>) -> Result<(), AllocError>
+/// Appends the value under this name. After an error a part of it may stand behind what was there.
+pub(crate) fn put_named(out: &mut Vec<u8>, name: &[u8], elem: &Elem<'_>) -> Result<(), AllocError>
     ensures { OnOk result (out.new.items ≡ out.old.items ++ element (name.now, (elem.now.tag, elem.now.value.now))) }
 {
     out.push(elem.tag)?;
-    out.extend_from_slice(name.as_bytes())?;
+    out.extend_from_slice(name)?;
     out.push(0)?;
     out.extend_from_slice(elem.value)?;
     Ok(())
@@ -70,7 +70,7 @@ fn joined_around(
     let mut out = Vec::with_capacity(alloc, len)?;
     out.extend_from_slice(&(len as u32).to_le_bytes())?;
     out.extend_from_slice(front)?;
-    put_named(&mut out, name, elem)?;
+    put_named(&mut out, name.as_bytes(), elem)?;
     out.extend_from_slice(rest)?;
     Ok(Some(Bytes::from_vec(out)))
 }

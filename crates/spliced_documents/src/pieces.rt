@@ -23,13 +23,6 @@ pub(crate) fn are_bytes(bytes: &[u8])
     ensures { AreBytes bytes.now }
 {}
 
-/// Does nothing. Its caller learns that the name has no zero in it.
-pub(crate) fn is_name(name: &CText)
-    ensures { IsName name.now }
-{
-    let _ = name.as_str();
-}
-
 /// Does nothing. Its caller learns that the name has no zero in it, and that the value is well-formed.
 pub(crate) fn are_well_formed(name: &CText, value: &Value)
     ensures name { IsName name.now }
@@ -113,8 +106,8 @@ pub(crate) fn counted(
     Ok(Some(Bytes::from_vec(out)))
 }
 
-// Appends this length and the bytes. After an error a part of them may stand behind what was there.
-fn put_counted(out: &mut Vec<u8>, len: usize, bytes: &[u8]) -> Result<(), AllocError>
+/// Appends this length and the bytes. After an error a part of them may stand behind what was there.
+pub(crate) fn put_counted(out: &mut Vec<u8>, len: usize, bytes: &[u8]) -> Result<(), AllocError>
     requires { len < 2 ^ 32 }
     ensures { OnOk result (out.new.items ≡ out.old.items ++ count_bytes len ++ bytes.now) }
 {
@@ -123,13 +116,13 @@ fn put_counted(out: &mut Vec<u8>, len: usize, bytes: &[u8]) -> Result<(), AllocE
     Ok(())
 }
 
-// Appends the type and the name of an element, which its value follows. After an error a part of it may
-// stand behind what was there.
-fn put_name(out: &mut Vec<u8>, tag: u8, name: &CText) -> Result<(), AllocError>
+/// Appends the type and the name of an element, which its value follows. After an error a part of it may
+/// stand behind what was there.
+pub(crate) fn put_name(out: &mut Vec<u8>, tag: u8, name: &str) -> Result<(), AllocError>
     ensures { OnOk result (out.new.items ≡ out.old.items ++ tag ∷ [] ++ name.now ++ 0 ∷ []) }
 {
     out.push(tag)?;
-    out.extend_from_slice(name.as_str().as_bytes())?;
+    out.extend_from_slice(name.as_bytes())?;
     out.push(0)?;
     Ok(())
 }
@@ -139,7 +132,7 @@ fn put_name(out: &mut Vec<u8>, tag: u8, name: &CText) -> Result<(), AllocError>
 pub(crate) fn counted_below(
     alloc: Global,
     outer: (&[u8], &[u8]),
-    field: &CText,
+    field: &str,
     tag: u8,
     inner: (&[u8], &[u8]),
     name: &CText,
@@ -155,7 +148,7 @@ pub(crate) fn counted_below(
     if below > MAX_BYTES {
         return Ok(None);
     }
-    let whole = outer.0.len() + field.as_str().len() + outer.1.len() + below + 6;
+    let whole = outer.0.len() + field.len() + outer.1.len() + below + 6;
     if whole > MAX_BYTES {
         return Ok(None);
     }
@@ -174,7 +167,7 @@ pub(crate) fn counted_below(
 pub(crate) fn joined_below(
     alloc: Global,
     outer: (&[u8], &[u8]),
-    field: &CText,
+    field: &str,
     tag: u8,
     inner: (&[u8], &[u8]),
 ) -> Result<Option<Bytes>, AllocError>
@@ -184,7 +177,7 @@ pub(crate) fn joined_below(
     ensures fits { IfOk result (λ o. IsSome o ↔ (length outer.entry.0.now + length (element (field.now, (tag, enclosed inner.entry.0.now [] inner.entry.1.now))) + length outer.entry.1.now + 4 ≤ 16777216)) }
 {
     let below = inner.0.len() + inner.1.len() + 4;
-    let total = outer.0.len() + field.as_str().len() + outer.1.len() + below + 6;
+    let total = outer.0.len() + field.len() + outer.1.len() + below + 6;
     if total > MAX_BYTES {
         return Ok(None);
     }

@@ -1,10 +1,9 @@
-use Rattle.std.proofs.Common.{ℕ, List, ◌∷◌, [], ◌++◌, ap, subst, ◌∙◌}
+use Rattle.std.proofs.Common.{ℕ, [], subst}
 use Rattle.bson_value.specs.WellFormed.{AreBytes}
 use Rattle.bson_view.specs.Meaning.{AreValue}
-use Rattle.bson_view.specs.Parts.{elements_in}
 use Rattle.bson_view.specs.Views.{document, elem_value, view_bytes}
-use Rattle.spliced_documents.specs.Splicing.{cut, enclosed, front_of, rest_of, IsCutBelow}
-use Rattle.spliced_documents.proofs.Nested.{all_fit, all_made, all_new, cut_made}
+use Rattle.spliced_documents.specs.Splicing.{cut, enclosed, IsCutBelow}
+use Rattle.spliced_documents.proofs.Nested.{all_fit, all_made, all_new, cut_made, found_name}
 use Rattle.spliced_documents.proofs.Whole.{enclosed_is}
 use Rattle.spliced_documents.proofs.below.cut_in.Goals as goal
 
@@ -17,8 +16,8 @@ returns-clause-bytes c =
     let inner = e.value.now in
     let front = c.around_in-inner.result.0.now in
     let rest = c.around_in-inner.result.1.now in
-    let is_front = c.around-outer.ensures.front ∙ ap (λ (n : List ℕ). front_of n (elements_in b)) c.as_str.ensures.text in
-    let is_rest = c.around-outer.ensures.rest ∙ ap (λ (n : List ℕ). rest_of n (elements_in b) ++ 0 ∷ []) c.as_str.ensures.text in
+    let is_front = c.around-outer.ensures.front in
+    let is_rest = c.around-outer.ensures.rest in
     let is_inner = enclosed_is k [] inner front rest c.around_in-inner.ensures.front c.around_in-inner.ensures.rest in
     all_made f 3 (enclosed front [] rest) (cut k inner) b is_inner c.around-outer.result.0.now c.around-outer.result.1.now is_front is_rest c.joined_below.result c.joined_below.ensures.bytes
 
@@ -31,8 +30,8 @@ returns-clause-fits c =
     let inner = e.value.now in
     let front = c.around_in-inner.result.0.now in
     let rest = c.around_in-inner.result.1.now in
-    let is_front = c.around-outer.ensures.front ∙ ap (λ (n : List ℕ). front_of n (elements_in b)) c.as_str.ensures.text in
-    let is_rest = c.around-outer.ensures.rest ∙ ap (λ (n : List ℕ). rest_of n (elements_in b) ++ 0 ∷ []) c.as_str.ensures.text in
+    let is_front = c.around-outer.ensures.front in
+    let is_rest = c.around-outer.ensures.rest in
     let is_inner = enclosed_is k [] inner front rest c.around_in-inner.ensures.front c.around_in-inner.ensures.rest in
     all_fit f 3 (enclosed front [] rest) (cut k inner) b is_inner c.around-outer.result.0.now c.around-outer.result.1.now is_front is_rest c.joined_below.result c.joined_below.ensures.fits
 
@@ -45,11 +44,11 @@ returns-clause-new c =
     let inner = e.value.now in
     let front = c.around_in-inner.result.0.now in
     let rest = c.around_in-inner.result.1.now in
-    let is_front = c.around-outer.ensures.front ∙ ap (λ (n : List ℕ). front_of n (elements_in b)) c.as_str.ensures.text in
-    let is_rest = c.around-outer.ensures.rest ∙ ap (λ (n : List ℕ). rest_of n (elements_in b) ++ 0 ∷ []) c.as_str.ensures.text in
+    let is_front = c.around-outer.ensures.front in
+    let is_rest = c.around-outer.ensures.rest in
     let is_inner = enclosed_is k [] inner front rest c.around_in-inner.ensures.front c.around_in-inner.ensures.rest in
     let value = subst (λ (t : ℕ). AreValue t inner (elem_value e)) c.requires.tag c.spells.ensures.spelled in
     let bytes = subst AreBytes c.bytes.ensures.bytes c.are_bytes.ensures in
     let d = document c.args.view.now in
-    let new = cut_made f inner b (elem_value e) d c.around-outer.ensures.spelled c.requires.levels bytes value e.short c.requires.value c.requires.held c.is_name.ensures k in
+    let new = cut_made f inner b (elem_value e) d c.around-outer.ensures.spelled c.requires.levels bytes value e.short c.requires.value c.requires.held (found_name b d c.around-outer.ensures.spelled f (elem_value e) c.requires.value) k in
     all_new f 3 (enclosed front [] rest) (cut k inner) b is_inner c.around-outer.result.0.now c.around-outer.result.1.now is_front is_rest (IsCutBelow f k d) d new c.joined_below.result c.joined_below.ensures.bytes c.joined_below.ensures.fits

@@ -1,6 +1,3 @@
-use Rattle.std.proofs.Common.{◌≡◌, true, false, rules, sym, ◌∙◌, inl, inr}
-use Rattle.std.specs.Str.{is_utf8}
-use Rattle.std.proofs.lemmas.Bool.{cases_Bool}
 use Rattle.std.proofs.lemmas.Str.{is_utf8-from_IsUtf8}
 use Rattle.spliced_documents.proofs.Leaves.{no_zero_named}
 use Rattle.spliced_documents.proofs.element.is_field_name.Goals as goal

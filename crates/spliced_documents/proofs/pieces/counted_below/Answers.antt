@@ -16,7 +16,7 @@ returns-clause-bytes c =
     let last = c.args.inner.1.now in
     let own = element (k, spelling v) in
     let below : ℕ = (length first + length c.as_str.result.now + length last + 6 + c.spelling_len.result) % 2 ^ 64 in
-    let len : ℕ = length of + length c.as_str-2.result.now + length rest + below + 6 in
+    let len : ℕ = length of + length f + length rest + below + 6 in
     let size = two_sizes c.in_ok-out.out.items c.put_counted.new.out.items c.put_name.new.out.items c.put_counted-2.new.out.items c.put_element.new.out.items c.extend_from_slice.new.self.items c.extend_from_slice-2.new.self.items c.args.tag
     (count_bytes len) of f (count_bytes below) first own last rest c.in_ok-out.ensures.items c.in_ok-put_counted.ensures c.in_ok-put_name.ensures c.in_ok-put_counted-2.ensures c.in_ok-put_element.ensures c.in_ok-extend_from_slice.ensures.items c.in_ok-extend_from_slice-2.ensures.items in
     let whole = two_levels c.in_ok-out.out.items c.put_counted.new.out.items c.put_name.new.out.items c.put_counted-2.new.out.items c.put_element.new.out.items c.extend_from_slice.new.self.items c.extend_from_slice-2.new.self.items c.args.tag
@@ -28,7 +28,6 @@ returns-clause-bytes c =
     omega (
       arith,
       is_below,
-      ap length c.as_str-2.ensures.text,
       length-append f (0 ∷ value),
       length-append (count_bytes (length first + length own + length last + 4) ++ first ++ own) last,
       length-append (count_bytes (length first + length own + length last + 4) ++ first) own,
