@@ -91,7 +91,7 @@ goes_below front place k w n ds t e is h = ap (option_map (mapped (at_front (fro
 pub like : (a b : ℕ) → (a == b) ≡ true → a ≡ b
 like a b e = grind (arith, common_steps)
 
-letter_is : (c : ℕ) (name cs : List ℕ) → Some cs ≡ behind_letter c name → name ≡ c ∷ cs
+pub letter_is : (c : ℕ) (name cs : List ℕ) → Some cs ≡ behind_letter c name → name ≡ c ∷ cs
 letter_is c [] cs e = absurd cc
 letter_is c (x ∷ xs) cs e = by (x == c) refl e
   where

@@ -25,6 +25,11 @@ IsTwo v = int_in v ≡ Some (pos 2)
 abbrev pub HasFields : Elem → Elem → Fields → Type 0
 HasFields a b fs = fs ≡ (a.name.now, elem_value a) ∷ ((b.name.now, elem_value b) ∷ [])
 
+-- these are, or the first alone is
+abbrev pub HasOneOrBoth : Elem → Option Elem → Fields → Type 0
+HasOneOrBoth a None fs = fs ≡ (a.name.now, elem_value a) ∷ []
+HasOneOrBoth a (Some b) fs = HasFields a b fs
+
 -- a delta of the second form has a version and this diff
 abbrev pub IsSecondForm : Fields → Fields → Type 0
 IsSecondForm o d = (v w : Value) × IsTwo (out-Value v) × (out-Value w ≡ Value-F.Object d) × (o ≡ (v_name, v) ∷ ((diff_name, w) ∷ []))

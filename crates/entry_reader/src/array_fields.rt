@@ -41,8 +41,8 @@ fn low_index(name: &[u8]) -> Option<u32>
     }
 }
 
-// The index of the element that a field sets.
-fn index_set(name: &[u8]) -> Option<u32>
+/// The index of the element that a field sets.
+pub(crate) fn index_set(name: &[u8]) -> Option<u32>
     ensures { result ≡ index_behind 117 name.now }
 {
     match behind_u(name) {

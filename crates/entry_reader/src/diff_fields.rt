@@ -7,7 +7,7 @@ ghost use Rattle.bson_view.specs.Meaning.{value_in};
 ghost use Rattle.bson_view.specs.Views.{document, elem_value};
 ghost use Rattle.doc_path.specs.declared.parts.Part.TheVariants.{Name};
 ghost use Rattle.oplog_entry.specs.DiffFields.{behind_letter};
-ghost use Rattle.entry_reader.specs.Singles.{HasFields, SaysTouch, front_of, int_in};
+ghost use Rattle.entry_reader.specs.Singles.{HasFields, HasOneOrBoth, SaysTouch, front_of, int_in};
 
 use bson_check::parts::{as_text, number_of};
 use bson_value::{CText, type_byte};
@@ -37,6 +37,21 @@ pub(crate) fn both<'a>(view: &View<'a>) -> Option<(Elem<'a>, Elem<'a>)>
     match fields.next() {
         Some(_) => None,
         None => Some((first, second)),
+    }
+}
+
+/// The first field of a document of one or of two, and the second of two.
+pub(crate) fn one_or_both<'a>(view: &View<'a>) -> Option<(Elem<'a>, Option<Elem<'a>>)>
+    ensures { IfSome result (λ p. HasOneOrBoth p.0 p.1 (document view.now)) }
+{
+    let mut fields = view.elements();
+    let first = fields.next()?;
+    let Some(second) = fields.next() else {
+        return Some((first, None));
+    };
+    match fields.next() {
+        Some(_) => None,
+        None => Some((first, Some(second))),
     }
 }
 

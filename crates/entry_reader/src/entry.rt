@@ -93,8 +93,8 @@ impl<'a> EntryView<'a> {
         self.head
     }
 
-    /// The delta, where the entry is one that sets one field of the document itself or takes one out. Of others
-    /// nothing is said.
+    /// The delta, where the entry is one that sets a field of the document itself or of a document that it holds, or
+    /// takes one out, or sets an element of an array that it holds. Of others nothing is said.
     pub fn field_delta(&self) -> Option<FieldDelta<'a>>
         ensures { (fs : Fields) → AreFieldsOf self.now fs → IfSome result (λ d. IsFieldDelta d fs) }
     {

@@ -11,4 +11,4 @@ mod parts;
 mod single;
 
 pub use entry::{EntryView, to_doc};
-pub use field_delta::FieldDelta;
+pub use field_delta::{FieldDelta, FieldPlace};

@@ -2,7 +2,7 @@ use Rattle.std.proofs.Common.{ℕ, List}
 use Rattle.bson_value.specs.declared.value.Value.{Value}
 use Rattle.std.specs.Prelude.{option_map}
 use Rattle.bson_view.specs.Views.{document, elem_value}
-use Rattle.entry_reader.specs.FieldDeltas.{IsDelta, IsInDiff}
+use Rattle.entry_reader.specs.FieldDeltas.{IsDelta, IsOnlyField, place_of}
 use Rattle.entry_reader.proofs.FieldDeltas.{delta_is, if_field}
 use Rattle.entry_reader.proofs.field_delta.field_of.Goals as goal
 
@@ -11,4 +11,5 @@ returns c =
     let o = document c.args.o.now in
     let d = document c.in_ok-diff.diff in
     let f : List ℕ × Value = (c.in_ok-kind.kind.name.now, elem_value c.in_ok-kind.kind) in
-    if_field c.field_in.result (λ z. IsInDiff z.0.now (option_map elem_value z.1) f) (λ z. IsDelta z.0.now (option_map elem_value z.1) o) (λ z. delta_is o d f z.0.now (option_map elem_value z.1) c.in_ok-diff.ensures c.in_ok-kind.ensures) c.field_in.ensures
+    if_field c.place_in.result (λ z. IsOnlyField (place_of z.0) (option_map elem_value z.1) f) (λ z. IsDelta (place_of z.0) (option_map elem_value z.1) o)
+    (λ z. delta_is o d f (place_of z.0) (option_map elem_value z.1) c.in_ok-diff.ensures c.in_ok-kind.ensures) c.place_in.ensures

@@ -1,4 +1,4 @@
-use Rattle.entry_reader.specs.FieldDeltas.{IsDeltaOf, IsFieldDelta}
+use Rattle.entry_reader.specs.FieldDeltas.{IsFieldDelta}
 use Rattle.entry_reader.specs.Parts.{document_at}
 use Rattle.entry_reader.proofs.FieldDeltas.{entry_is, if_field}
 use Rattle.entry_reader.proofs.entry.EntryView.field_delta.Goals as goal
