@@ -9,3 +9,4 @@ pub mod Folds
 pub mod Faults
 pub mod Spellings
 pub mod OwnField
+pub mod Items

@@ -1,4 +1,4 @@
--- A document that is there, with one field set or taken out, and after touches, also those that stay within one field.
+-- A document that is there, with one field or one element of an array set or taken out, and after touches, also those that stay within one field.
 use Rattle.std.specs.Prelude.{◌≡◌, ℕ, ◌≤◌, List, [], ◌∷◌, length, map, Bool, true, false, ◌&&◌, nat_lt, Option, Some, None}
 use Rattle.std.specs.Str.{bytes_eq}
 use Rattle.containers.specs.Entries.{lookup, put, without}
@@ -14,7 +14,7 @@ use Rattle.doc_path.specs.declared.touches.Touch.{Touch}
 use Rattle.doc_path.specs.declared.touches.Touch.TheVariants.{Set as Sets, Unset as Unsets, Resize as Resizes}
 use Rattle.doc_path.specs.Played.{played, played_all, touch_of}
 use Rattle.doc_path.specs.Touch.{Touch as Played}
-use Rattle.spliced_documents.specs.Splicing.{cut, FitsLeaf}
+use Rattle.spliced_documents.specs.Splicing.{cut, FitsCutBelow, FitsLeaf, FitsLeafBelow, IsCutBelow, IsPutBelow}
 use Rattle.coll_state.specs.Rows.{Document, Rows, id_of, key_in}
 use Rattle.coll_state.specs.Changes.{document_at, number_at}
 use Rattle.coll_state.specs.Kept.{is_short}
@@ -69,27 +69,37 @@ stays_within k (Resizes place n) = is_within k place
 abbrev pub IsPlayedAlone : Form → List Touch → List ℕ → Value → Option Value → Type 0
 IsPlayedAlone f ts k x o = (d : Document) × (Object d ≡ played_all f (map touch_of ts) (Object ((k, x) ∷ []))) × (o ≡ lookup k d)
 
--- ---- a field that a value is given for, or none
+-- ---- a place that a value is given for, or none
 
--- the touch sets this field of the document itself to the value, or takes it out where there is none
-abbrev pub SaysField : List ℕ → Option Value → Touch → Type 0
-SaysField k None t = t ≡ Unsets (name k ∷ [])
-SaysField k (Some v) t = (fresh : Bool) × (t ≡ Sets (name k ∷ []) v fresh)
+-- the touch sets what is at this place to the value, or takes it out where there is none
+abbrev pub SaysAt : List Part → Option Value → Touch → Type 0
+SaysAt place None t = t ≡ Unsets place
+SaysAt place (Some v) t = (fresh : Bool) × (t ≡ Sets place v fresh)
 
 -- a document with the value in this field, or without the field where there is none
-abbrev pub with_value : List ℕ → Option Value → Document → Document
-with_value k None d = without k d
-with_value k (Some v) d = put k v d
+abbrev pub IsWith : List ℕ → Option Value → Document → Document → Type 0
+IsWith k None d e = e ≡ without k d
+IsWith k (Some v) d e = e ≡ put k v d
+
+-- the same of the field k of the document that the field f holds
+abbrev pub IsWithBelow : List ℕ → List ℕ → Option Value → Document → Document → Type 0
+IsWithBelow f k None d e = IsCutBelow f k d e
+IsWithBelow f k (Some v) d e = IsPutBelow f k v d e
 
 -- the document that is there, changed like this
-abbrev pub IsChanged : NsName → Value → List ℕ → Option Value → Rows → ℕ → Document → Type 0
-IsChanged n i k o s number e = (d : Document) × IsThere n i s number d × (e ≡ with_value k o d)
+abbrev pub IsChanged : NsName → Value → (Document → Document → Type 0) → Rows → ℕ → Document → Type 0
+IsChanged n i r s number e = (d : Document) × IsThere n i s number d × r d e
 
--- a value that is given holds no others, a field may have the name, and the bytes with it, or without the field, are within the limits
-abbrev pub FitsWith : List ℕ → Option Value → List ℕ → Type 0
-FitsWith k None bytes = length (cut k bytes) ≤ 16777216
-FitsWith k (Some v) bytes = FitsLeaf k v bytes
+-- a value that is given holds no others, a field may have the name, and the spelling with it, or without the field, is within the limits
+abbrev pub FitsWith : List ℕ → Option Value → Document → Type 0
+FitsWith k None d = length (cut k (document_text d)) ≤ 16777216
+FitsWith k (Some v) d = FitsLeaf k v (document_text d)
 
--- the document that is there is kept as its spelling, and is so with the value in this field, or without the field
-abbrev pub FitsThere : NsName → Value → List ℕ → Option Value → Rows → Type 0
-FitsThere n i k o s = (d : Document) × (document_at n (key_of i) s.tables ≡ Some d) × (is_short d ≡ true) × FitsWith k o (document_text d)
+-- the same of the field k of the document that the field f holds
+abbrev pub FitsWithBelow : List ℕ → List ℕ → Option Value → Document → Type 0
+FitsWithBelow f k None d = FitsCutBelow f k (document_text d)
+FitsWithBelow f k (Some v) d = FitsLeafBelow f k v (document_text d)
+
+-- the document that is there is kept as its spelling, and meets this
+abbrev pub FitsThere : NsName → Value → (Document → Type 0) → Rows → Type 0
+FitsThere n i fits s = (d : Document) × (document_at n (key_of i) s.tables ≡ Some d) × (is_short d ≡ true) × fits d

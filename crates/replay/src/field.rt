@@ -7,13 +7,14 @@ ghost use Rattle.bson_encode.specs.Key.{key_of};
 ghost use Rattle.bson_view.specs.Kept.{kept_bytes, kept_document};
 ghost use Rattle.bson_view.specs.Views.{document, elem_value, view_bytes};
 ghost use Rattle.doc_path.specs.declared.parts.Form.TheVariants.{V2};
+ghost use Rattle.doc_path.specs.declared.parts.Part.TheVariants.{Name};
 ghost use Rattle.doc_path.specs.declared.touches.Touch.{Touch};
 ghost use Rattle.doc_path.specs.Played.{id_name};
 ghost use Rattle.spliced_documents.specs.Splicing.{IsShortSpelling};
 ghost use Rattle.state_model.specs.Replay.{replay_all};
 ghost use Rattle.coll_state.specs.Rows.{state_of};
 ghost use Rattle.replay.specs.Moves.{deltas};
-ghost use Rattle.replay.specs.Splicing.{with_value, FitsThere, FitsWith, IsChanged, SaysField};
+ghost use Rattle.replay.specs.Splicing.{FitsThere, FitsWith, IsChanged, IsWith, SaysAt};
 
 use crate::splicing::own_view;
 use bson_value::{NsName, Value};
@@ -22,7 +23,7 @@ use coll_state::State;
 use spliced_documents::{with_element, without_field};
 use std::alloc::{AllocError, Global};
 
-fn is_id(name: &str) -> bool
+pub(crate) fn is_id(name: &str) -> bool
     ensures { result ≡ bytes_eq name.now id_name }
 {
     name == "_id"
@@ -37,8 +38,8 @@ fn changed(
 ) -> Result<Option<DocumentBytes>, AllocError>
     requires levels { levels_of (document view.now) ≤ 100 }
     requires text { view_bytes view.now ≡ document_text (document view.now) }
-    ensures document { IfOk result (λ o. IfSome o (λ b. kept_document b ≡ with_value name.now (option_map (λ e. elem_value e.now) value.entry) (document view.now))) }
-    ensures fits { IfOk result (λ o. IsSome o ↔ FitsWith name.now (option_map (λ e. elem_value e.now) value.entry) (document_text (document view.now))) }
+    ensures document { IfOk result (λ o. IfSome o (λ b. IsWith name.now (option_map (λ e. elem_value e.now) value.entry) (document view.now) (kept_document b))) }
+    ensures fits { IfOk result (λ o. IsSome o ↔ FitsWith name.now (option_map (λ e. elem_value e.now) value.entry) (document view.now)) }
     ensures spelling { IfOk result (λ o. IfSome o (λ b. IsShortSpelling (kept_bytes b) (kept_document b))) }
 {
     match value {
@@ -57,8 +58,8 @@ fn changed_own(
     name: &str,
     value: Option<&Elem<'_>>,
 ) -> Result<Option<(u128, DocumentBytes)>, AllocError>
-    ensures changed { IfOk result (λ o. IfSome o (λ p. IsChanged ns.now id.now name.now (option_map (λ e. elem_value e.now) value.entry) state.now p.0 (kept_document p.1))) }
-    ensures fits { IfOk result (λ o. IsSome o ↔ FitsThere ns.now id.now name.now (option_map (λ e. elem_value e.now) value.entry) state.now) }
+    ensures changed { IfOk result (λ o. IfSome o (λ p. IsChanged ns.now id.now (IsWith name.now (option_map (λ e. elem_value e.now) value.entry)) state.now p.0 (kept_document p.1))) }
+    ensures fits { IfOk result (λ o. IsSome o ↔ FitsThere ns.now id.now (FitsWith name.now (option_map (λ e. elem_value e.now) value.entry)) state.now) }
     ensures spelling { IfOk result (λ o. IfSome o (λ p. IsShortSpelling (kept_bytes p.1) (kept_document p.1))) }
 {
     let Some((number, view)) = own_view(state, ns, id) else {
@@ -83,8 +84,8 @@ pub fn splice_field(
     value: Option<&Elem<'_>>,
 ) -> Result<bool, AllocError>
     requires { state.old.count < 2 ^ 127 }
-    ensures made { IfOk result (λ done. IsTrue done → (t : Touch) → SaysField name.now (option_map (λ e. elem_value e.now) value.entry) t → state_of state.new ≡ replay_all (deltas ns.now (key_of id.now) V2 (t ∷ [])) (state_of state.old)) }
-    ensures done { IfOk result (λ done. IsTrue done ↔ ((bytes_eq name.now id_name ≡ false) × FitsThere ns.now id.now name.now (option_map (λ e. elem_value e.now) value.entry) state.old)) }
+    ensures made { IfOk result (λ done. IsTrue done → (t : Touch) → SaysAt (Name name.now ∷ []) (option_map (λ e. elem_value e.now) value.entry) t → state_of state.new ≡ replay_all (deltas ns.now (key_of id.now) V2 (t ∷ [])) (state_of state.old)) }
+    ensures done { IfOk result (λ done. IsTrue done ↔ ((bytes_eq name.now id_name ≡ false) × FitsThere ns.now id.now (FitsWith name.now (option_map (λ e. elem_value e.now) value.entry)) state.old)) }
     ensures left { IfOk result (λ done. done ≡ false → state.new ≡ state.old) }
     ensures err { OnErr result (state.new ≡ state.old) }
     ensures count { state.new.count ≤ state.old.count + 1 }

@@ -48,7 +48,7 @@ fn play_unset_below(
     ensures spelling { IfOk result (λ o. IfSome o (λ b. IsShortSpelling (kept_bytes b) (kept_document b))) }
 {
     match taken_below(touches.as_slice()) {
-        Some((field, name)) => without_field_below(alloc, view, field, name.as_str()),
+        Some((field, name)) => without_field_below(alloc, view, field.as_str(), name.as_str()),
         None => Ok(None),
     }
 }

@@ -1,4 +1,4 @@
-use Rattle.std.proofs.Common.{ap, sym, subst, ◌∙◌, Option, ℕ}
+use Rattle.std.proofs.Common.{ap, subst, ◌∙◌, Option, ℕ}
 use Rattle.std.specs.Prelude.{IfSome}
 use Rattle.bson_view.specs.declared.document_bytes.DocumentBytes.{DocumentBytes}
 use Rattle.bson_view.specs.Kept.{kept_bytes, kept_document}

@@ -1,6 +1,5 @@
 use Rattle.std.proofs.Common.{ℕ, List, option_map, subst, sym, Bor, Option}
 use Rattle.std.specs.Prelude.{◌↔◌, IfOk, IsSome}
-use Rattle.bson_value.specs.Spelling.{document_text}
 use Rattle.bson_view.specs.declared.elem.Elem.{Elem}
 use Rattle.bson_view.specs.Views.{document, elem_value}
 use Rattle.spliced_documents.specs.Splicing.{FitsLeaf}
@@ -12,4 +11,4 @@ returns-in-Some-clause-fits c =
     let k = c.args.name.now in
     let r = c.with_element.result in
     let here = subst (λ (b : List ℕ). IfOk r (λ o. IsSome o ↔ FitsLeaf k (elem_value c.in-Some.elem.now) b)) c.requires.text c.with_element.ensures.fits in
-    subst (λ (value : Option (Bor Elem)). IfOk r (λ o. IsSome o ↔ FitsWith k (option_map (λ (e : Bor Elem). elem_value e.now) value) (document_text (document c.args.view.now)))) (sym c.in-Some.is) here
+    subst (λ (value : Option (Bor Elem)). IfOk r (λ o. IsSome o ↔ FitsWith k (option_map (λ (e : Bor Elem). elem_value e.now) value) (document c.args.view.now))) (sym c.in-Some.is) here

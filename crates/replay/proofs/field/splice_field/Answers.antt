@@ -1,4 +1,4 @@
-use Rattle.std.proofs.Common.{◌≡◌, ℕ, false, rules, option_map, subst, Option, Bor}
+use Rattle.std.proofs.Common.{◌≡◌, ℕ, false, [], ◌∷◌, rules, option_map, subst, Option, Bor}
 use Rattle.std.specs.Prelude.{IfSome}
 use Rattle.std.specs.Str.{bytes_eq}
 use Rattle.bson_value.specs.declared.value.Value.{Value}
@@ -6,9 +6,10 @@ use Rattle.bson_view.specs.declared.document_bytes.DocumentBytes.{DocumentBytes}
 use Rattle.bson_view.specs.declared.elem.Elem.{Elem}
 use Rattle.bson_view.specs.Kept.{kept_document}
 use Rattle.bson_view.specs.Views.{elem_value}
+use Rattle.doc_path.specs.declared.parts.Part.TheVariants.{Name as name}
 use Rattle.doc_path.specs.Played.{id_name}
-use Rattle.replay.specs.Splicing.{IsChanged}
-use Rattle.replay.proofs.OwnField.{made, number_is}
+use Rattle.replay.specs.Splicing.{IsChanged, IsWith}
+use Rattle.replay.proofs.OwnField.{changes_field, made, number_is}
 use Rattle.replay.proofs.field.splice_field.Goals as goal
 
 pub replace_spelling-requires-clause-number : goal.replace_spelling-requires-clause-number
@@ -18,8 +19,8 @@ replace_spelling-requires-clause-number c =
     let s = c.args.state.now in
     let value : Option Value = option_map (λ (e : Bor Elem). elem_value e.now) c.args.value in
     let other : bytes_eq k id_name ≡ false = search rules in
-    let is = subst (λ (o : Option (ℕ × DocumentBytes)). IfSome o (λ p. IsChanged n c.args.id.now k value s p.0 (kept_document p.1))) c.in-Some.is c.in_ok-number.ensures.changed in
-    number_is k other n c.args.id.now value s c.in-Some.number (kept_document c.in-Some.bytes) is
+    let is = subst (λ (o : Option (ℕ × DocumentBytes)). IfSome o (λ p. IsChanged n c.args.id.now (IsWith k value) s p.0 (kept_document p.1))) c.in-Some.is c.in_ok-number.ensures.changed in
+    number_is (name k ∷ []) value (IsWith k value) (changes_field k other value) n c.args.id.now s c.in-Some.number (kept_document c.in-Some.bytes) is
 
 pub returns-in-Some-clause-made : goal.returns-in-Some-clause-made
 returns-in-Some-clause-made c =
@@ -28,5 +29,6 @@ returns-in-Some-clause-made c =
     let s = c.args.state.now in
     let value : Option Value = option_map (λ (e : Bor Elem). elem_value e.now) c.args.value in
     let other : bytes_eq k id_name ≡ false = search rules in
-    let is = subst (λ (o : Option (ℕ × DocumentBytes)). IfSome o (λ p. IsChanged n c.args.id.now k value s p.0 (kept_document p.1))) c.in-Some.is c.in_ok-number.ensures.changed in
-    λ done t says. made k other n c.args.id.now value s c.in-Some.number (kept_document c.in-Some.bytes) is c.replace_spelling.new.self c.replace_spelling.ensures t says
+    let is = subst (λ (o : Option (ℕ × DocumentBytes)). IfSome o (λ p. IsChanged n c.args.id.now (IsWith k value) s p.0 (kept_document p.1))) c.in-Some.is c.in_ok-number.ensures.changed in
+    let new = c.replace_spelling.new.self in
+    λ done t says. made (name k ∷ []) value (IsWith k value) (changes_field k other value) n c.args.id.now s c.in-Some.number (kept_document c.in-Some.bytes) is new c.replace_spelling.ensures t says

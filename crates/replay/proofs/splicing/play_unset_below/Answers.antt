@@ -12,10 +12,12 @@ use Rattle.replay.proofs.splicing.play_unset_below.Goals as goal
 
 pub returns-in-Some-clause-played : goal.returns-in-Some-clause-played
 returns-in-Some-clause-played c =
-    let r = IsCutBelow c.in-Some.field.now c.in-Some.name.now in
+    let f = c.in-Some.field.now in
+    let r = IsCutBelow f c.in-Some.name.now in
     let changes = subst (λ (ts : List Touch). (p : Played) × (map touch_of ts ≡ p ∷ []) × Changes r p) c.as_slice.ensures c.in-Some.ensures in
     let d = document c.args.view.now in
-    let cut = subst (λ (n : List ℕ). IfOk c.without_field_below.result (λ o. IfSome o (λ b. IsCutBelow c.in-Some.field.now n d (kept_document b)))) c.as_str.ensures.text c.without_field_below.ensures.document in
+    let below = subst (λ (g : List ℕ). IfOk c.without_field_below.result (λ o. IfSome o (λ b. IsCutBelow g c.as_str-in-Some.result.now d (kept_document b)))) c.as_str.ensures.text c.without_field_below.ensures.document in
+    let cut = subst (λ (n : List ℕ). IfOk c.without_field_below.result (λ o. IfSome o (λ b. IsCutBelow f n d (kept_document b)))) c.as_str-in-Some.ensures.text below in
     changed_played c.args.form d r c.args.touches.now changes c.without_field_below.result cut
 
 pub returns-in-Some-clause-spelling : goal.returns-in-Some-clause-spelling
