@@ -14,6 +14,7 @@ use Rattle.bson_view.specs.declared.elem.Elem.{Elem}
 use Rattle.coll_state.specs.Rows.{Rows, state_of}
 use Rattle.state_model.specs.Replay.{replay_all}
 use Rattle.doc_path.specs.declared.parts.Form.TheVariants.{V2}
+use Rattle.doc_path.specs.declared.parts.Part.{Part}
 use Rattle.doc_path.specs.declared.touches.Touch.{Touch}
 use Rattle.state_model.specs.Moves.{Move}
 use Rattle.entry_model.specs.declared.entry.Entry.{Entry}
@@ -24,10 +25,10 @@ use Rattle.entry_model.specs.declared.entry.Action.TheVariants.{Delta}
 use Rattle.entry_model.specs.Reading.{head_of, namespace_of}
 use Rattle.entry_model.specs.Written.{Fields}
 use Rattle.entry_model.proofs.Entries.{split_back}
-use Rattle.entry_reader.specs.FieldDeltas.{IsFieldDelta, SaysField}
+use Rattle.entry_reader.specs.FieldDeltas.{place_of, IsFieldDelta, SaysAt}
 use Rattle.entry_reader.specs.declared.field_delta.FieldDelta.{FieldDelta}
 use Rattle.replay.specs.Moves.{is_config, deltas, moves_at, moves_of}
-use Rattle.replay.specs.Splicing.{SaysField as Says}
+use Rattle.replay.specs.Splicing.{SaysAt as Says}
 use Rattle.restore_filter.specs.Rules.{Rules}
 use Rattle.restore_filter.specs.Names.{takes}
 use Rattle.restore_entries.specs.declared.reading.EntryReading.TheVariants.{Passed, Kept}
@@ -58,21 +59,21 @@ moves_are_deltas ts n d t other =
 
 -- ---- where memory lasts
 
-same_touch : (k : List ℕ) (v : Option Value) (t : Touch) → SaysField k v t → Says k v t
-same_touch k None t h = h
-same_touch k (Some v) t h = h
+same_touch : (place : List Part) (v : Option Value) (t : Touch) → SaysAt place v t → Says place v t
+same_touch place None t h = h
+same_touch place (Some v) t h = h
 
 lent : (v : Option (Bor Elem)) → option_map (λ (e : Bor Elem). elem_value e.now) v ≡ option_map elem_value (option_copied v)
 lent None = refl
 lent (Some e) = refl
 
 pub made_of_entry : {E : Type 0} (r : Result Bool E) (s u : Rows) (n : NsName) (d : FieldDelta) (id : Value) (v : Option (Bor Elem)) → is_config n ≡ false → id ≡ elem_value d.id → option_copied v ≡ d.value →
-    IfOk r (λ done. IsTrue done → (t : Touch) → Says d.name.now (option_map (λ (e : Bor Elem). elem_value e.now) v) t → state_of u ≡ replay_all (deltas n (key_of id) V2 (t ∷ [])) (state_of s)) →
-    IfOk r (λ done. IsTrue done → (ts : Ts) (t : Touch) → SaysField d.name.now (option_map elem_value d.value) t → state_of u ≡ replay_all (moves_of (entry_of_touch ts n d t)) (state_of s))
+    IfOk r (λ done. IsTrue done → (t : Touch) → Says (place_of d.place) (option_map (λ (e : Bor Elem). elem_value e.now) v) t → state_of u ≡ replay_all (deltas n (key_of id) V2 (t ∷ [])) (state_of s)) →
+    IfOk r (λ done. IsTrue done → (ts : Ts) (t : Touch) → SaysAt (place_of d.place) (option_map elem_value d.value) t → state_of u ≡ replay_all (moves_of (entry_of_touch ts n d t)) (state_of s))
 made_of_entry (Err e) s u n d id v other own copied h = tt
 made_of_entry (Ok done) s u n d id v other own copied h = λ yes ts t says.
     let value : option_map elem_value d.value ≡ option_map (λ (e : Bor Elem). elem_value e.now) v = ap (option_map elem_value) (sym copied) ∙ sym (lent v) in
-    h yes t (subst (λ (o : Option Value). Says d.name.now o t) value (same_touch d.name.now (option_map elem_value d.value) t says))
+    h yes t (subst (λ (o : Option Value). Says (place_of d.place) o t) value (same_touch (place_of d.place) (option_map elem_value d.value) t says))
     ∙ ap (λ (ms : List Move). replay_all ms (state_of s)) (ap (λ (w : Value). deltas n (key_of w) V2 (t ∷ [])) own ∙ sym (moves_are_deltas ts n d t other))
 
 pub if_split : {E : Type 0} (t : List ℕ) (r : Result (Option NsName) E) → IfOk r (λ o. IfSome o (λ n. IsSplit t n.db n.coll)) → IfOk r (λ o. IfSome o (λ n. namespace_of t ≡ Some n))

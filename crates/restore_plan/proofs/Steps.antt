@@ -30,7 +30,7 @@ use Rattle.entry_model.specs.Written.{Fields}
 use Rattle.entry_model.specs.declared.entry.Entry.{Entry}
 use Rattle.entry_model.specs.declared.entry.Action.{out-Action}
 use Rattle.entry_model.specs.declared.entry.Action.TheVariants as actions
-use Rattle.entry_reader.specs.FieldDeltas.{SaysField}
+use Rattle.entry_reader.specs.FieldDeltas.{place_of, SaysAt}
 use Rattle.entry_reader.specs.declared.field_delta.FieldDelta.{FieldDelta}
 use Rattle.replay.specs.Moves.{moves_of}
 use Rattle.restore_entries.specs.Documents.{is_of_document}
@@ -97,7 +97,7 @@ oplog_taken p c d n b e t = oplog_kept p c d n b (oplog_reading p b) t.0 e refl 
 
 -- a ripe entry of a delta of one field is taken where its state was made
 pub field_taken : (c d : Contents) (r : EntryReading) (n : NsName) (x : FieldDelta) → (length c.entries == 0) ≡ true → is_ended n c.ended ≡ true → IsKeptAs n x r →
-    ((ts : Ts) (t : Touch) → SaysField x.name.now (option_map elem_value x.value) t → d.state ≡ replay_all (moves_of (entry_of_touch ts n x t)) c.state) → d.entries ≡ c.entries → d.ended ≡ c.ended → IsTakenAs c r d
+    ((ts : Ts) (t : Touch) → SaysAt (place_of x.place) (option_map elem_value x.value) t → d.state ≡ replay_all (moves_of (entry_of_touch ts n x t)) c.state) → d.entries ≡ c.entries → d.ended ≡ c.ended → IsTakenAs c r d
 field_taken c d r n x none ended k made entries ends =
     let e : Entry = entry_of_touch k.0 n x k.1 in
     let document : is_of_document (out-Action e.action) ≡ true = ap is_of_document (actions.outs-Delta (elem_value x.id) V2 (k.1 ∷ [])) in
@@ -108,7 +108,7 @@ field_taken c d r n x none ended k made entries ends =
 -- the same of what was read of its fields
 pub field_taken_if : {E : Type 0} (r : Result Bool E) (c d : Contents) (o : Option (NsName × FieldDelta)) (n : NsName) (x : FieldDelta) (P : Fields → Type 0) (reading : Fields → EntryReading) →
     o ≡ Some (n, x) → (length c.entries == 0) ≡ true → is_ended n c.ended ≡ true → d.entries ≡ c.entries → d.ended ≡ c.ended → ((fs : Fields) → P fs → IfSome o (λ f. IsKeptAs f.0 f.1 (reading fs))) →
-    IfOk r (λ done. IsTrue done → (ts : Ts) (t : Touch) → SaysField x.name.now (option_map elem_value x.value) t → d.state ≡ replay_all (moves_of (entry_of_touch ts n x t)) c.state) →
+    IfOk r (λ done. IsTrue done → (ts : Ts) (t : Touch) → SaysAt (place_of x.place) (option_map elem_value x.value) t → d.state ≡ replay_all (moves_of (entry_of_touch ts n x t)) c.state) →
     IfOk r (λ done. IsTrue done → (fs : Fields) → P fs → IsTakenAs c (reading fs) d)
 field_taken_if (Err e) c d o n x P reading is none ended entries ends kept made = tt
 field_taken_if (Ok done) c d o n x P reading is none ended entries ends kept made =
