@@ -6,6 +6,7 @@ mod form;
 mod json;
 mod leaves;
 mod lines;
+mod name_order;
 mod plain;
 mod spelling;
 mod strings;

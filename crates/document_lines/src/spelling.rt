@@ -8,9 +8,9 @@ ghost use Rattle.bson_view.specs.Views.{document, elem_part, elem_value, parts_l
 ghost use Rattle.bson_view.specs.Parts.{bytes_of, fields_of, values_of};
 ghost use Rattle.document_lines.specs.Elems.{ordered_elems, in_order, AreBelow};
 
+use crate::name_order::order_of_names;
 use crate::plain::is_plain_array;
 use bson_view::{Elem, Elements, View};
-use byte_order::order;
 use itoa::Buffer;
 use std::alloc::{AllocError, Global};
 
@@ -39,7 +39,7 @@ fn by_name<'a>(elems: Vec<Elem<'a>>) -> Vec<Elem<'a>>
     ensures moved { IsPermutation elems.entry.items result.items }
 {
     let mut elems = elems;
-    elems.sort_unstable_by(|a, b| order(a.name, b.name));
+    elems.sort_unstable_by(|a, b| order_of_names(a.name, b.name));
     elems
 }
 
