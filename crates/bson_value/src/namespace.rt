@@ -7,6 +7,7 @@ ghost use Rattle.std.specs.Cmp.{partial_order_from_own_ties};
 ghost use Rattle.bson_value.specs.Namespace.{IsSplit};
 ghost use Rattle.bson_value.specs.NamespaceOrder.{namespace_cmp};
 
+use byte_order::order;
 use containers::Text;
 use std::alloc::{AllocError, Global};
 use std::cmp::Ordering;
@@ -60,7 +61,14 @@ impl Ord for NsName {
     ghost matches_eq = { Prim.search (comparing, rules) };
 
     fn cmp(&self, other: &NsName) -> Ordering {
-        self.db.cmp(&other.db).then(self.coll.cmp(&other.coll))
+        let by_db = order(self.db.as_str().as_bytes(), other.db.as_str().as_bytes());
+        if by_db != Ordering::Equal {
+            return by_db;
+        }
+        order(
+            self.coll.as_str().as_bytes(),
+            other.coll.as_str().as_bytes(),
+        )
     }
 }
 

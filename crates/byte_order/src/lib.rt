@@ -74,6 +74,21 @@ fn order_by_fours(a: &[u8], b: &[u8], both: usize) -> Ordering
     a.len().cmp(&b.len())
 }
 
+// The first bytes that differ decide, and else the lengths. The slices' own order does the same, at a cost that only long ones are
+// worth.
+fn order_by_bytes(a: &[u8], b: &[u8]) -> Ordering
+    ensures { result ≡ slice_cmp nat_cmp a.now b.now }
+{
+    let (Some((x, others)), Some((y, more))) = (a.split_first(), b.split_first()) else {
+        return a.len().cmp(&b.len());
+    };
+    if *x == *y {
+        order_by_bytes(others, more)
+    } else {
+        x.cmp(y)
+    }
+}
+
 /// The order of two byte strings, which is that of the slices: the first bytes that differ decide, and
 /// else the lengths. It compares eight bytes in a step, also those that end the shorter string and those that
 /// differ, which the slices' own order compares one by one. It takes no memory.
@@ -87,6 +102,6 @@ pub fn order(a: &[u8], b: &[u8]) -> Ordering
     } else if both >= 4 {
         order_by_fours(a, b, both)
     } else {
-        a.cmp(b)
+        order_by_bytes(a, b)
     }
 }
