@@ -80,7 +80,7 @@ fn put_delete(out: &mut Vec<u8>, ns: &NsName, id: &Value) -> Result<(), AllocErr
 }
 
 /// Appends the operation, the namespace and `o2` of an update.
-fn put_update_head(out: &mut Vec<u8>, ns: &NsName, id: &Value) -> Result<(), AllocError>
+pub(crate) fn put_update_head(out: &mut Vec<u8>, ns: &NsName, id: &Value) -> Result<(), AllocError>
     ensures { OnOk result (out.new.items ≡ out.old.items ++ elements_of ((codes "op", Str (codes "u")) ∷ (codes "ns", Str (namespace_text ns.now.db ns.now.coll)) ∷ (codes "o2", Object (id_alone id.now)) ∷ [])) }
 {
     put_heading(out, b'u', ns)?;

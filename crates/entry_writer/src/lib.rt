@@ -13,5 +13,7 @@ mod names;
 mod parts;
 mod paths;
 mod rising;
+mod spelled;
 
 pub use group::{write, write_delta};
+pub use spelled::{write_put, write_update};

@@ -14,7 +14,7 @@ use Rattle.doc_path.specs.Played.{way_and_last}
 use Rattle.entry_model.specs.declared.entry.Action.TheVariants.{Delta}
 use Rattle.entry_model.specs.Edits.{Step, Sets, Unsets}
 use Rattle.entry_model.specs.Written.{Fields, is_index, in_array, spelled_v2}
-use Rattle.entry_model.specs.Touches.{as_touches, touch_by}
+use Rattle.entry_model.specs.Touches.{as_touches, touch_by, written}
 use Rattle.entry_model.specs.Spelling.{level_limit}
 use Rattle.bson_check.specs.Reading.{document_of}
 use Rattle.update_action.specs.Recorded.{delta_text, touches_in, read_or_none, byte_limit, delta_of, delta_or_whole, action_of}
@@ -99,3 +99,7 @@ again_recorded V1 id new ts e h short small = cc
 again_recorded V2 id new ts e h short small =
     sym (ap (λ (b : Bool). delta_or_whole id new (if b then None else delta_of V2 new ts)) (not_longer (length (document_text new)) (length (delta_text V2 new ts)) short)
     ∙ ap (delta_or_whole id new) (h (within (length (document_text new)) (length (delta_text V2 new ts)) short small)))
+
+pub second_form : (form : Form) (new : Fields) (ts : List Touch) → form ≡ V2 → delta_text form new ts ≡ document_text (written form level_limit ts)
+second_form V1 new ts e = cc
+second_form V2 new ts e = refl

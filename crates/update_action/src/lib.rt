@@ -3,6 +3,8 @@
 
 mod action;
 mod delta;
+mod entry;
 mod single;
 
 pub use action::update_action;
+pub use entry::update_entry;
