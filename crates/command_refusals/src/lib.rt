@@ -19,4 +19,4 @@ pub use document_rows::{
     updated_refusal,
 };
 pub use index_tests::{put_refusal, refusal_by};
-pub use updates::updated;
+pub use updates::{updated, updated_own};

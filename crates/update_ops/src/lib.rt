@@ -18,4 +18,4 @@ mod values;
 
 pub use ops::Ops;
 pub use update_model::{ArrayEnd, Number, Operator, OperatorName, OpsFault, UpdateFault, Updated};
-pub use updating::update;
+pub use updating::{update, update_own};

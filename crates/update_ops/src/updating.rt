@@ -54,15 +54,15 @@ fn finish(alloc: Global, draft: Draft) -> Result<Updated, UpdateFault>
 /// first refusal. The touches are those of places that no other touch stands above, each once, in order of
 /// their first making, with what stands there after the update.
 ///
-/// The document is copied once. An operator looks its path up in the document, from its front, and takes
+/// The document is changed in place. An operator looks its path up in the document, from its front, and takes
 /// the time of that and of what it changes; `$addToSet` compares each of up to eight values with each element,
 /// and looks more of them up by their keys.
-pub fn update(alloc: Global, doc: &Doc, ops: &Ops) -> Result<Updated, UpdateFault>
-    ensures ok { IfOk result (λ u. updated ops.now doc.now ≡ Ok u) }
-    ensures fault { IfErr result (λ e. IsRefusal e (updated ops.now doc.now)) }
+pub fn update_own(alloc: Global, doc: Doc, ops: &Ops) -> Result<Updated, UpdateFault>
+    ensures ok { IfOk result (λ u. updated ops.now doc ≡ Ok u) }
+    ensures fault { IfErr result (λ e. IsRefusal e (updated ops.now doc)) }
 {
     let mut draft = Draft {
-        doc: doc.copy(alloc)?,
+        doc,
         marks: List::new(alloc),
         is_large: false,
     };
@@ -70,4 +70,12 @@ pub fn update(alloc: Global, doc: &Doc, ops: &Ops) -> Result<Updated, UpdateFaul
         draft.apply(alloc, operator)?;
     }
     finish(alloc, draft)
+}
+
+/// What `update_own` makes of a copy of the document.
+pub fn update(alloc: Global, doc: &Doc, ops: &Ops) -> Result<Updated, UpdateFault>
+    ensures ok { IfOk result (λ u. updated ops.now doc.now ≡ Ok u) }
+    ensures fault { IfErr result (λ e. IsRefusal e (updated ops.now doc.now)) }
+{
+    update_own(alloc, doc.copy(alloc)?, ops)
 }
