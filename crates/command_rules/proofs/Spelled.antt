@@ -1,6 +1,6 @@
 -- Facts of documents: the value of a field is spelled within the document; without a name, the name is absent.
-use Rattle.std.proofs.Common.{◌≡◌, ℕ, ◌+◌, ◌≤◌, Bool, true, false, List, [], ◌∷◌, ◌++◌, length, refl, sym, ap, ◌∙◌, subst, arith, length-append, Option, Some, None}
-use Rattle.std.specs.Prelude.{slice_get, if◌then◌else◌, IsTrue, ◌↔◌, ◌&&◌, nat_le}
+use Rattle.std.proofs.Common.{◌≡◌, ℕ, ◌+◌, ◌≤◌, Bool, true, false, List, [], ◌∷◌, ◌++◌, length, refl, sym, ap, ◌∙◌, subst, arith, length-append, Some}
+use Rattle.std.specs.Prelude.{slice_get, is_some, if◌then◌else◌, IsTrue, ◌↔◌, ◌&&◌, nat_le}
 use Rattle.std.proofs.lemmas.Bool.{le-leb, leb-true}
 use Rattle.std.specs.Str.{bytes_eq}
 use Rattle.std.proofs.lemmas.Slice.Eq.{bytes_eq-Decides}
@@ -48,6 +48,13 @@ first_alone n v es e h =
 pub begins : (d : Document) (e : List ℕ × Value) → AreDistinct (names_of d) → Some e ≡ slice_get d 0 → e.0 ≡ id_name → id_first d ≡ d
 begins [] e a g n = absurd cc
 begins (f ∷ es) e a g n = (let h : e ≡ f = cc in first_alone f.0 f.1 es (ap (λ (x : List ℕ × Value). x.0) (sym h) ∙ n) a.0)
+
+pub has_first : (d : Document) (e : List ℕ × Value) → Some e ≡ slice_get d 0 → e.0 ≡ id_name → is_some (id_of d) ≡ true
+has_first [] e g n = absurd cc
+has_first (f ∷ es) e g n = (let h : e ≡ f = cc in ap (λ (m : List ℕ). is_some (id_of ((m, f.1) ∷ es))) (ap (λ (x : List ℕ × Value). x.0) (sym h) ∙ n))
+
+pub begins_otherwise : (d : Document) (e : List ℕ × Value) → Some e ≡ slice_get d 0 → (e.0 ≡ id_name → ⊥) → (v : Value) (es : Document) → d ≡ (id_name, v) ∷ es → ⊥
+begins_otherwise d e g n v es h = (let k : Some e ≡ Some (id_name, v) = g ∙ ap (λ (l : Document). slice_get l 0) h in n (let m : e ≡ (id_name, v) = cc in ap (λ (x : List ℕ × Value). x.0) m))
 
 -- ---- a document that may be stored: its size, and its `_id`
 

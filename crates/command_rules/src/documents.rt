@@ -1,5 +1,6 @@
 //! Documents to be stored.
-ghost use Rattle.std.specs.Prelude.{◌≡◌, ◌≤◌, ◌∷◌, Some, IfOk, length, true};
+ghost use Rattle.std.specs.Prelude.{◌≡◌, ◌≤◌, ◌∷◌, List, ℕ, Some, IfOk, is_some, length, true, false};
+ghost use Rattle.bson_value.specs.declared.value.Value.{Value as Datum};
 ghost use Rattle.bson_value.specs.Spelling.{spelled, document_text};
 ghost use Rattle.containers.specs.Entries.{IsAbsent, names_of};
 ghost use Rattle.doc_path.specs.Played.{id_name};
@@ -67,9 +68,11 @@ fn moved_first(name: CText, id: Value, doc: Doc) -> Result<Doc, AllocError>
     Ok(doc)
 }
 
-// Whether its first field is `_id`.
-fn begins_with_id(doc: &Doc) -> bool
-    ensures { result ≡ true → id_first doc.now ≡ doc.now }
+/// Whether its first field is `_id`: then it is kept as it stands. It takes no memory.
+pub fn begins_with_id(doc: &Doc) -> bool
+    ensures there { result ≡ true → is_some (id_of doc.now) ≡ true }
+    ensures first { result ≡ true → id_first doc.now ≡ doc.now }
+    ensures no { result ≡ false → (id : Datum) → (others : List (List ℕ × Datum)) → doc.now ≡ (id_name, id) ∷ others → ⊥ }
 {
     match doc.entries().first() {
         Some((name, _)) => name.as_str() == "_id",

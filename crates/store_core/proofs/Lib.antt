@@ -9,4 +9,4 @@ pub mod RingLaws
 pub mod Elsewhere
 pub mod Following
 pub mod TogetherEffects
-pub mod Ends
+pub mod Untouched

@@ -10,7 +10,7 @@ use Rattle.schedule_model.specs.declared.command.DocumentCommand.{DocumentComman
 use Rattle.schedule_model.specs.declared.command.Command.TheVariants.{Document}
 use Rattle.update_model.specs.declared.updated.Updated.{Updated}
 use Rattle.history_model.specs.Documents.{id_first}
-use Rattle.history_model.specs.Refusals.{row_at, row_named, update_of, document_refusal}
+use Rattle.history_model.specs.Refusals.{row_named, document_refusal}
 use Rattle.store_core.specs.Stores.{Stored}
 use Rattle.store_core.specs.Applying.{Refuses}
 use Rattle.store_core.specs.declared.fault.StoreFault.{StoreFault}
@@ -53,8 +53,3 @@ IsAccepted d s P (Err f) = Refuses (Document d) s f
 pub record Replaces (n : NsName) (doc : Fields) (r : Rows) (old first : Fields) : Type 0 where
   pub first_is : first ≡ id_first doc
   pub stands : option_map (λ (x : Row). x.document) (row_named n (id_of first) r) ≡ Some old
-
--- the document that stands under the `_id` of an update, and what the update makes of it
-pub record Updates (n : NsName) (id : Value) (ops : Fields) (r : Rows) (old : Fields) (u : Updated) : Type 0 where
-  pub stands : option_map (λ (x : Row). x.document) (row_at n (key_of id) r) ≡ Some old
-  pub makes : update_of (row_at n (key_of id) r) ops ≡ Some u

@@ -1,5 +1,5 @@
 -- The spellings of documents that are put.
-use Rattle.std.specs.Prelude.{◌≡◌, ℕ, List, ◌++◌, length}
+use Rattle.std.specs.Prelude.{◌≡◌}
 use Rattle.bson_value.specs.Spelling.{document_text}
 use Rattle.bson_view.specs.Kept.{kept_bytes, kept_document}
 use Rattle.bson_view.specs.declared.document_bytes.DocumentBytes.{DocumentBytes}
@@ -8,7 +8,3 @@ use Rattle.coll_state.specs.Rows.{Document as Fields}
 -- these bytes are the spelling of the document
 abbrev pub IsSpellingOf : DocumentBytes → Fields → Type 0
 IsSpellingOf b d = (kept_bytes b ≡ document_text d) × (kept_document b ≡ d)
-
--- these are those of an entry that ends with the document and the date of its second
-abbrev pub EndsWith : List ℕ → Fields → Type 0
-EndsWith entry d = (front behind : List ℕ) × (length behind ≡ 15) × (entry ≡ front ++ (document_text d ++ behind))

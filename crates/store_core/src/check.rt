@@ -21,9 +21,10 @@ impl Store {
     fn check_replace(&self, ns: &NsName, doc: &Doc) -> Result<u32, StoreFault>
         ensures { Checks (Command.Document (DocumentCommand.Replace ns.now doc.now)) self.now result }
     {
-        match self.replacement(ns, doc)? {
-            Some(_) => Ok(1),
-            None => Ok(0),
+        if self.replacement(ns, doc)? {
+            Ok(1)
+        } else {
+            Ok(0)
         }
     }
 

@@ -2,7 +2,7 @@
 ghost use Rattle.std.specs.Prelude.{◌≡◌, ◌<◌, [], IfOk, OnOk, OnErr, Ok, true, false};
 ghost use Rattle.std.specs.FinMap as map;
 ghost use Rattle.copy_model.specs.Writes as writes;
-ghost use Rattle.history_model.specs.Documents.{options_of};
+ghost use Rattle.history_model.specs.Documents.{id_first, options_of};
 ghost use Rattle.history_model.specs.Entries.{entry_bytes};
 ghost use Rattle.history_model.specs.Entries as entries;
 ghost use Rattle.history_model.specs.Refusals.{is_there};
@@ -14,10 +14,11 @@ ghost use Rattle.store_core.specs.Documents.{insert_effects, IsKept};
 use crate::collections::unless;
 use crate::entries::{spelled_of, spelled_put};
 use crate::fault::StoreFault;
+use crate::own_bytes::spelling_of;
 use crate::store::Store;
 use bson_value::{Bytes, Doc, NsName};
 use command_refusals::insert_refusal;
-use command_rules::{id_first, options_of};
+use command_rules::{begins_with_id, id_first, options_of};
 use entry_model::Action;
 use schedule_model::{Command, DocumentCommand};
 use std::alloc::AllocError;
@@ -25,30 +26,30 @@ use store_log::next_ts;
 use stored_documents::{id_first_is_alike, stored_documents_are_good};
 
 impl Store {
-    /// The document of an insert that may be made, as it is kept.
-    pub(crate) fn insertion(&self, ns: &NsName, doc: &Doc) -> Result<Doc, StoreFault>
-        ensures decided { Decided (Command.Document (DocumentCommand.Insert ns.now doc.now)) self.now (insert_effects (is_there ns.now self.now.rows) ns.now) result }
-        ensures kept { IfOk result (λ first. IsKept first) }
+    /// Whether a document may be inserted, which is as it is kept.
+    fn may_insert(&self, ns: &NsName, doc: &Doc, first: &Doc) -> Result<(), StoreFault>
+        requires { first.now ≡ id_first doc.now }
+        ensures decided { Decided (Command.Document (DocumentCommand.Insert ns.now doc.now)) self.now (λ _. insert_effects (is_there ns.now self.now.rows) ns.now first.now) result }
+        ensures kept { IfOk result (λ _. IsKept first.now) }
     {
         id_first_is_alike();
         stored_documents_are_good();
-        let first = id_first(self.alloc, doc)?;
         let tested = self
             .indexes
-            .refusal(self.alloc, &self.state, ns, doc, &first)?;
-        unless(insert_refusal(&self.state, ns, doc, tested))?;
-        Ok(first)
+            .refusal(self.alloc, &self.state, ns, doc, first)?;
+        unless(insert_refusal(&self.state, ns, doc, tested))
     }
 
     // Puts a document into a collection that is there.
-    fn insert_into(&mut self, ns: &NsName, doc: &Doc, first: Doc) -> Result<u32, StoreFault>
+    fn insert_into(&mut self, ns: &NsName, doc: &Doc, first: &Doc) -> Result<u32, StoreFault>
         requires few { self.old.log.recorded < 4000000000 }
-        requires accepted { effects (Command.Document (DocumentCommand.Insert ns.now doc.now)) (stage_in self.old) ≡ Ok (insert_effects true ns.now first) }
-        requires kept { IsKept first }
+        requires accepted { effects (Command.Document (DocumentCommand.Insert ns.now doc.now)) (stage_in self.old) ≡ Ok (insert_effects true ns.now first.now) }
+        requires kept { IsKept first.now }
         ensures { Applies (Command.Document (DocumentCommand.Insert ns.now doc.now)) self.old result self.new }
     {
-        let (bytes, first, spelling) = spelled_put(self.alloc, self.next_ts(), ns, first)?;
-        self.put(ns, &first, spelling, bytes)?;
+        let spelling = spelling_of(self.alloc, first)?;
+        let bytes = spelled_put(self.alloc, self.next_ts(), ns, first, &spelling)?;
+        self.put(ns, first, spelling, bytes)?;
         Ok(1)
     }
 
@@ -61,31 +62,58 @@ impl Store {
     }
 
     // Makes a collection with its first document.
-    fn insert_first(&mut self, ns: &NsName, doc: &Doc, first: Doc) -> Result<u32, StoreFault>
+    fn insert_first(&mut self, ns: &NsName, doc: &Doc, first: &Doc) -> Result<u32, StoreFault>
         requires few { self.old.log.recorded < 4000000000 }
         requires missing { map.contains_key self.old.rows.tables ns.now ≡ false }
-        requires accepted { effects (Command.Document (DocumentCommand.Insert ns.now doc.now)) (stage_in self.old) ≡ Ok (insert_effects false ns.now first) }
-        requires kept { IsKept first }
+        requires accepted { effects (Command.Document (DocumentCommand.Insert ns.now doc.now)) (stage_in self.old) ≡ Ok (insert_effects false ns.now first.now) }
+        requires kept { IsKept first.now }
         ensures { Applies (Command.Document (DocumentCommand.Insert ns.now doc.now)) self.old result self.new }
     {
         let creation = self.creation_bytes(ns)?;
         self.log.is_kept();
         let later = next_ts(self.log.clock(), self.next_ts());
-        let (bytes, first, _) = spelled_put(self.alloc, later, ns, first)?;
-        self.put_first(ns, first, creation, bytes)?;
+        let spelling = spelling_of(self.alloc, first)?;
+        let bytes = spelled_put(self.alloc, later, ns, first, &spelling)?;
+        let copy = first.copy(self.alloc)?;
+        self.put_first(ns, copy, creation, bytes)?;
         Ok(2)
+    }
+
+    // Inserts a document, which is as it is kept.
+    fn insert_kept(&mut self, ns: &NsName, doc: &Doc, first: &Doc) -> Result<u32, StoreFault>
+        requires few { self.old.log.recorded < 4000000000 }
+        requires first { first.now ≡ id_first doc.now }
+        ensures { Applies (Command.Document (DocumentCommand.Insert ns.now doc.now)) self.old result self.new }
+    {
+        self.may_insert(ns, doc, first)?;
+        if self.state.has(ns) {
+            self.insert_into(ns, doc, first)
+        } else {
+            self.insert_first(ns, doc, first)
+        }
+    }
+
+    /// Whether a document may be inserted.
+    pub(crate) fn insertion(&self, ns: &NsName, doc: &Doc) -> Result<(), StoreFault>
+        ensures decided { Decided (Command.Document (DocumentCommand.Insert ns.now doc.now)) self.now (λ _. insert_effects (is_there ns.now self.now.rows) ns.now (id_first doc.now)) result }
+        ensures kept { IfOk result (λ _. IsKept (id_first doc.now)) }
+    {
+        if begins_with_id(doc) {
+            return self.may_insert(ns, doc, doc);
+        }
+        let first = id_first(self.alloc, doc)?;
+        self.may_insert(ns, doc, &first)
     }
 
     pub(crate) fn insert(&mut self, ns: &NsName, doc: &Doc) -> Result<u32, StoreFault>
         requires { self.old.log.recorded < 4000000000 }
         ensures { Applies (Command.Document (DocumentCommand.Insert ns.now doc.now)) self.old result self.new }
     {
-        let first = self.insertion(ns, doc)?;
-        if self.state.has(ns) {
-            self.insert_into(ns, doc, first)
-        } else {
-            self.insert_first(ns, doc, first)
+        if begins_with_id(doc) {
+            return self.insert_kept(ns, doc, doc);
         }
+        let first = id_first(self.alloc, doc)?;
+        self.insert_kept(ns, doc, &first)
     }
 
     /// Makes a collection that is missing, without options: the first of the two entries of an insert into it. It is one entry.

@@ -4,7 +4,7 @@ ghost use Rattle.bson_value.specs.Spelling.{document_text};
 ghost use Rattle.coll_state.specs.Changes.{put};
 ghost use Rattle.coll_state.specs.Kept.{is_short};
 ghost use Rattle.coll_state.specs.Rows.{id_of};
-ghost use Rattle.store_core.specs.Spellings.{EndsWith, IsSpellingOf};
+ghost use Rattle.store_core.specs.Spellings.{IsSpellingOf};
 
 use bson_check::faultless_if_spelled;
 use bson_encode::{encode, spelling_spells};
@@ -12,9 +12,6 @@ use bson_value::{Bytes, Doc, NsName};
 use bson_view::{DocumentBytes, one_document};
 use coll_state::State;
 use std::alloc::{AllocError, Global};
-
-/// So many bytes stand behind the document in an entry that puts it: the date of its second, and the zero that ends it.
-const BEHIND_LEN: usize = 15;
 
 // The bytes of a document, which are its spelling.
 fn document_bytes(bytes: Bytes, doc: &Doc) -> DocumentBytes
@@ -35,22 +32,6 @@ pub(crate) fn spelling_of(alloc: Global, doc: &Doc) -> Result<DocumentBytes, All
     ensures { IfOk result (λ b. IsSpellingOf b doc.now) }
 {
     let bytes = encode(alloc, doc)?;
-    Ok(document_bytes(bytes, doc))
-}
-
-/// The same out of the bytes of an entry that puts the document, which isn't written once more.
-pub(crate) fn spelling_in(
-    alloc: Global,
-    entry: &[u8],
-    doc: &Doc,
-) -> Result<DocumentBytes, AllocError>
-    requires ends { EndsWith entry.now doc.now }
-    requires short { is_short doc.now ≡ true }
-    ensures { IfOk result (λ b. IsSpellingOf b doc.now) }
-{
-    let end = entry.len() - BEHIND_LEN;
-    let start = end - doc.spelling_len();
-    let bytes = Bytes::of(alloc, &entry[start..end])?;
     Ok(document_bytes(bytes, doc))
 }
 

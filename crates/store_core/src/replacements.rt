@@ -1,10 +1,9 @@
 //! Commands on documents that are there.
 ghost use Rattle.std.specs.Prelude.{◌≡◌, ◌<◌, IfOk, IfSome, Ok, Some, None, if◌then◌else◌};
 ghost use Rattle.bson_encode.specs.Key.{key_of};
-ghost use Rattle.bson_value.specs.declared.value.Value.{Object};
 ghost use Rattle.copy_model.specs.Writes as writes;
-ghost use Rattle.update_model.specs.Equality.{same};
 ghost use Rattle.coll_state.specs.Rows.{id_of};
+ghost use Rattle.history_model.specs.Documents.{id_first};
 ghost use Rattle.history_model.specs.Entries as entries;
 ghost use Rattle.history_model.specs.Commands.{only, effects};
 ghost use Rattle.store_core.specs.Applying.{Applies, Decided, stage_in};
@@ -13,25 +12,15 @@ ghost use Rattle.store_core.specs.Documents.{replace_effects, IsKept, IsAccepted
 use crate::collections::unless;
 use crate::entries::{spelled_of, spelled_whole};
 use crate::fault::StoreFault;
+use crate::own_bytes::spelling_of;
 use crate::store::Store;
 use bson_value::{Doc, NsName, Value};
 use command_refusals::{delete_refusal, replace_refusal};
-use command_rules::id_first;
+use command_rules::{begins_with_id, id_first};
 use entry_model::Action;
 use schedule_model::{Command, DocumentCommand};
 use std::alloc::{AllocError, Global};
 use stored_documents::{id_first_is_alike, same_document, stored_documents_are_good};
-
-/// The document, unless it is as the old one.
-pub(crate) fn unless_same(old: &Doc, new: Doc) -> Option<Doc>
-    ensures { result ≡ (if same (Object old.now) (Object new) then None else Some new) }
-{
-    if same_document(old, &new) {
-        None
-    } else {
-        Some(new)
-    }
-}
 
 // The `_id` of a document that has one.
 fn id_of(alloc: Global, doc: &Doc) -> Result<Value, AllocError>
@@ -45,55 +34,83 @@ fn id_of(alloc: Global, doc: &Doc) -> Result<Value, AllocError>
 }
 
 impl Store {
-    // A replacement that isn't refused: the document as it is kept, and the one that stands.
-    fn replaced(&self, ns: &NsName, doc: &Doc) -> Result<(Doc, Doc), StoreFault>
-        ensures decided { IsAccepted (DocumentCommand.Replace ns.now doc.now) self.now (λ two. Replaces ns.now doc.now self.now.rows two.0 two.1) result }
-        ensures kept { IfOk result (λ two. IsKept two.1) }
+    // The document whose place one takes that isn't refused, and is given as it is kept.
+    fn replaced(&self, ns: &NsName, doc: &Doc, first: &Doc) -> Result<Doc, StoreFault>
+        requires { first.now ≡ id_first doc.now }
+        ensures decided { IsAccepted (DocumentCommand.Replace ns.now doc.now) self.now (λ old. Replaces ns.now doc.now self.now.rows old first.now) result }
+        ensures kept { IfOk result (λ _. IsKept first.now) }
     {
         id_first_is_alike();
         stored_documents_are_good();
-        let first = id_first(self.alloc, doc)?;
         let tested = self
             .indexes
-            .refusal(self.alloc, &self.state, ns, doc, &first)?;
+            .refusal(self.alloc, &self.state, ns, doc, first)?;
         unless(replace_refusal(&self.state, ns, doc, tested))?;
-        let id = id_of(self.alloc, &first)?;
+        let id = id_of(self.alloc, first)?;
         match self.state.copy_of(self.alloc, ns, &id)? {
-            Some(old) => Ok((old, first)),
+            Some(old) => Ok(old),
             None => unreachable!(),
         }
     }
 
-    /// The document of a replacement that may be made, as it is kept; none where it is as before.
-    pub(crate) fn replacement(&self, ns: &NsName, doc: &Doc) -> Result<Option<Doc>, StoreFault>
-        ensures decided { Decided (Command.Document (DocumentCommand.Replace ns.now doc.now)) self.now (replace_effects ns.now) result }
-        ensures kept { IfOk result (λ o. IfSome o IsKept) }
+    // Whether a document that may take the place of the one with its `_id` changes it. It is given as it is kept.
+    fn changes(&self, ns: &NsName, doc: &Doc, first: &Doc) -> Result<bool, StoreFault>
+        requires { first.now ≡ id_first doc.now }
+        ensures decided { Decided (Command.Document (DocumentCommand.Replace ns.now doc.now)) self.now (λ b. replace_effects ns.now (if b then Some first.now else None)) result }
+        ensures kept { IfOk result (λ _. IsKept first.now) }
     {
-        let (old, first) = self.replaced(ns, doc)?;
-        Ok(unless_same(&old, first))
+        let old = self.replaced(ns, doc, first)?;
+        Ok(!same_document(&old, first))
+    }
+
+    /// Whether a replacement that may be made changes the document.
+    pub(crate) fn replacement(&self, ns: &NsName, doc: &Doc) -> Result<bool, StoreFault>
+        ensures decided { Decided (Command.Document (DocumentCommand.Replace ns.now doc.now)) self.now (λ b. replace_effects ns.now (if b then Some (id_first doc.now) else None)) result }
+        ensures kept { IfOk result (λ _. IsKept (id_first doc.now)) }
+    {
+        if begins_with_id(doc) {
+            return self.changes(ns, doc, doc);
+        }
+        let first = id_first(self.alloc, doc)?;
+        self.changes(ns, doc, &first)
     }
 
     // Puts the document of a replacement.
-    fn put_whole(&mut self, ns: &NsName, doc: &Doc, first: Doc) -> Result<u32, StoreFault>
+    fn put_whole(&mut self, ns: &NsName, doc: &Doc, first: &Doc) -> Result<u32, StoreFault>
         requires few { self.old.log.recorded < 4000000000 }
-        requires accepted { effects (Command.Document (DocumentCommand.Replace ns.now doc.now)) (stage_in self.old) ≡ Ok (replace_effects ns.now (Some first)) }
-        requires kept { IsKept first }
+        requires accepted { effects (Command.Document (DocumentCommand.Replace ns.now doc.now)) (stage_in self.old) ≡ Ok (replace_effects ns.now (Some first.now)) }
+        requires kept { IsKept first.now }
         ensures { Applies (Command.Document (DocumentCommand.Replace ns.now doc.now)) self.old result self.new }
     {
-        let id = id_of(self.alloc, &first)?;
-        let (bytes, first, spelling) = spelled_whole(self.alloc, self.next_ts(), ns, id, first)?;
-        self.put(ns, &first, spelling, bytes)?;
+        let id = id_of(self.alloc, first)?;
+        let spelling = spelling_of(self.alloc, first)?;
+        let bytes = spelled_whole(self.alloc, self.next_ts(), ns, &id, first, &spelling)?;
+        self.put(ns, first, spelling, bytes)?;
         Ok(1)
+    }
+
+    // Replaces a document by one that is given as it is kept.
+    fn replace_by(&mut self, ns: &NsName, doc: &Doc, first: &Doc) -> Result<u32, StoreFault>
+        requires few { self.old.log.recorded < 4000000000 }
+        requires first { first.now ≡ id_first doc.now }
+        ensures { Applies (Command.Document (DocumentCommand.Replace ns.now doc.now)) self.old result self.new }
+    {
+        if self.changes(ns, doc, first)? {
+            self.put_whole(ns, doc, first)
+        } else {
+            Ok(0)
+        }
     }
 
     pub(crate) fn replace(&mut self, ns: &NsName, doc: &Doc) -> Result<u32, StoreFault>
         requires { self.old.log.recorded < 4000000000 }
         ensures { Applies (Command.Document (DocumentCommand.Replace ns.now doc.now)) self.old result self.new }
     {
-        match self.replacement(ns, doc)? {
-            Some(first) => self.put_whole(ns, doc, first),
-            None => Ok(0),
+        if begins_with_id(doc) {
+            return self.replace_by(ns, doc, doc);
         }
+        let first = id_first(self.alloc, doc)?;
+        self.replace_by(ns, doc, &first)
     }
 
     /// Whether a document may be removed.

@@ -1,22 +1,22 @@
 //! Updates of documents.
 ghost use Rattle.std.specs.Prelude.{◌≡◌, ◌<◌, IfOk, IfSome, Ok, Some, None};
 ghost use Rattle.bson_encode.specs.Key.{key_of};
-ghost use Rattle.history_model.specs.Refusals.{row_at};
+ghost use Rattle.history_model.specs.Refusals.{row_at, update_of};
 ghost use Rattle.history_model.specs.Commands.{effects};
 ghost use Rattle.store_core.specs.Applying.{Applies, Decided, Refuses, stage_in};
-ghost use Rattle.store_core.specs.Documents.{update_effects, IsKeptUnder, IsAccepted, Updates};
+ghost use Rattle.store_core.specs.Documents.{update_effects, IsKeptUnder, IsAccepted};
 
 use crate::collections::unless;
-use crate::entries::spelled_of;
 use crate::fault::StoreFault;
 use crate::own_bytes::spelling_of;
-use crate::replacements::unless_same;
 use crate::store::Store;
 use bson_value::{Doc, NsName, Value};
-use command_refusals::{update_refusal, updated};
+use command_refusals::{update_refusal, updated_own};
 use schedule_model::{Command, DocumentCommand};
 use stored_documents::updates_keep_documents_good;
-use update_action::update_action;
+use unchanged_updates::unchanged_is_untouched;
+use update_action::update_entry;
+use update_model::{equality_is_tested, no_touches_no_change};
 use update_ops::Updated;
 
 impl Store {
@@ -31,27 +31,27 @@ impl Store {
         }
     }
 
-    // An update that isn't refused: the document that stands, and what is made of it.
-    fn updated(&self, ns: &NsName, id: &Value, ops: &Doc) -> Result<(Doc, Updated), StoreFault>
-        ensures decided { IsAccepted (DocumentCommand.Update ns.now id.now ops.now) self.now (λ two. Updates ns.now id.now ops.now self.now.rows two.0 two.1) result }
-        ensures kept { IfOk result (λ two. IsKeptUnder id.now two.1.doc) }
+    // What an update that isn't refused makes of the document that stands.
+    fn updated(&self, ns: &NsName, id: &Value, ops: &Doc) -> Result<Updated, StoreFault>
+        ensures decided { IsAccepted (DocumentCommand.Update ns.now id.now ops.now) self.now (λ u. update_of (row_at ns.now (key_of id.now) self.now.rows) ops.now ≡ Some u) result }
+        ensures kept { IfOk result (λ u. IsKeptUnder id.now u.doc) }
     {
         updates_keep_documents_good();
         let Some(old) = self.state.copy_of(self.alloc, ns, id)? else {
             return Err(self.missing(ns, id, ops));
         };
-        let after = updated(self.alloc, &old, ops)?;
+        let after = updated_own(self.alloc, old, ops)?;
         let tested = self
             .indexes
             .updated_refusal(self.alloc, &self.state, ns, id, after.as_ref())?;
         unless(update_refusal(&self.state, ns, id, ops, after.as_ref(), tested))?;
         match after {
-            Some(after) => Ok((old, after)),
+            Some(after) => Ok(after),
             None => unreachable!(),
         }
     }
 
-    /// What an update that may be made gives; none where the document is as before.
+    /// What an update that may be made gives; none where the document is as before, which is where it has no touch.
     pub(crate) fn update_of(
         &self,
         ns: &NsName,
@@ -61,11 +61,14 @@ impl Store {
         ensures decided { Decided (Command.Document (DocumentCommand.Update ns.now id.now ops.now)) self.now (update_effects self.now.log.form ns.now id.now) result }
         ensures kept { IfOk result (λ o. IfSome o (λ u. IsKeptUnder id.now u.doc)) }
     {
-        let (old, after) = self.updated(ns, id, ops)?;
-        let Updated { doc, touches } = after;
-        match unless_same(&old, doc) {
-            Some(doc) => Ok(Some(Updated { doc, touches })),
-            None => Ok(None),
+        equality_is_tested();
+        no_touches_no_change();
+        unchanged_is_untouched();
+        let after = self.updated(ns, id, ops)?;
+        if after.touches.is_empty() {
+            Ok(None)
+        } else {
+            Ok(Some(after))
         }
     }
 
@@ -84,9 +87,10 @@ impl Store {
     {
         let form = self.log.form();
         let Updated { doc, touches } = updated;
-        let action = update_action(self.alloc, id, &doc, touches.as_slice(), form)?;
-        let bytes = spelled_of(self.alloc, self.next_ts(), ns, action)?;
         let spelling = spelling_of(self.alloc, &doc)?;
+        let ts = self.next_ts();
+        let text = spelling.as_slice();
+        let bytes = update_entry(self.alloc, ts, ns, id, &doc, text, touches.as_slice(), form)?;
         self.put(ns, &doc, spelling, bytes)?;
         Ok(1)
     }

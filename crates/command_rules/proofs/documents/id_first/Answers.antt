@@ -1,5 +1,5 @@
-use Rattle.std.proofs.Common.{◌≡◌, List, ℕ, sym, ap, ◌∙◌, subst}
-use Rattle.containers.specs.Entries.{IsAbsent, names_of, without}
+use Rattle.std.proofs.Common.{List, ℕ, sym, subst}
+use Rattle.containers.specs.Entries.{IsAbsent, names_of}
 use Rattle.doc_path.specs.Played.{id_name}
 use Rattle.coll_state.specs.Rows.{Document}
 use Rattle.command_rules.proofs.Spelled.{absent_without}

@@ -1,5 +1,4 @@
-use Rattle.std.proofs.Common.{List, ap, subst}
-use Rattle.bson_value.specs.declared.namespace.NsName.{NsName}
+use Rattle.std.proofs.Common.{subst}
 use Rattle.coll_state.specs.Walks.{names_left}
 use Rattle.store_core.specs.Databases.{AreAmong}
 use Rattle.store_core.proofs.Elsewhere.{all_among, without_database}

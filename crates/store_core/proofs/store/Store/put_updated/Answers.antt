@@ -20,6 +20,6 @@ returns c =
     (let f = c.args.self.now.log.form in
     let u = c.args.updated in
     let form = c.form-form.ensures ∙ ap (λ (s : Stored). s.log.form) c.self.view_is in
-    put_made (commands.Document (changes.Update c.args.ns.now c.args.id.now c.args.ops.now)) c.args.ns.now c.args.id.now u.doc (update_item f c.args.ns.now c.args.id.now u.doc u.touches) c.args.self.now c.put.new.self c.in_ok-bytes.bytes c.next_ts.result refl c.requires.kept.key c.requires.accepted c.next_ts.ensures
-    (c.in_ok-bytes.ensures ∙ (ap (λ (a : Action). document_text (entry_fields (entry_with c.next_ts.result c.args.ns.now a))) (c.in_ok-action.ensures ∙ (λ i. action_of (form i) c.args.id.now u.doc (c.as_slice.ensures i)))
-    ∙ ap (λ e. document_text (entry_fields e)) (sym (update_entry c.next_ts.result f c.args.ns.now c.args.id.now u.doc u.touches)))) c.in_ok-put.ensures.ok)
+    put_made (commands.Document (changes.Update c.args.ns.now c.args.id.now c.args.ops.now)) c.args.ns.now c.args.id.now u.doc (update_item f c.args.ns.now c.args.id.now u.doc u.touches) c.args.self.now c.put.new.self c.in_ok-bytes.bytes c.next_ts-ts.result refl c.requires.kept.key c.requires.accepted c.next_ts-ts.ensures
+    (c.in_ok-bytes.ensures ∙ (ap (λ (a : Action). document_text (entry_fields (entry_with c.next_ts-ts.result c.args.ns.now a))) (λ i. action_of (form i) c.args.id.now u.doc (c.as_slice.ensures i))
+    ∙ ap (λ e. document_text (entry_fields e)) (sym (update_entry c.next_ts-ts.result f c.args.ns.now c.args.id.now u.doc u.touches)))) c.in_ok-put.ensures.ok)
