@@ -1,7 +1,7 @@
 -- One line of the text.
 use Rattle.std.proofs.Common.{◌≡◌, ℕ, ◌+◌, ◌<◌, ◌≤◌, List, [], ◌∷◌, ◌++◌, length, take, drop, refl, sym, ap, ◌∙◌, subst, arith, inl, inr, append_assoc, append-nil, length-append}
-use Rattle.std.specs.Prelude.{◌⊎◌, Option, Some, None, Result, Ok, Err, IfSome, IsSome, true}
-use Rattle.std.specs.Io.KnownBytes.{IsAtEnd}
+use Rattle.std.specs.Prelude.{◌⊎◌, Option, Some, None, Result, Ok, Err, IfOk, IfSome}
+use Rattle.std.specs.Io.KnownBytes.{Consumes, IsAtEnd}
 use Rattle.std.proofs.lemmas.Bool.{cases_lt}
 use Rattle.tool_io.specs.Ends.{End}
 use Rattle.std.proofs.lemmas.List.{length-take-le}
@@ -14,12 +14,11 @@ use Rattle.schedule_text.specs.declared.schedule.NumberedLine.{NumberedLine}
 use Rattle.schedule_text.specs.Lines.{whole_lines, EndsAt}
 use Rattle.schedule_text.specs.Reading.{Bad, Reader, after_line, with_lines, added, schedule_left, behind_lines}
 use Rattle.schedule_text.proofs.LineEnds.{first_cut, no_feed, begins_first, end_within}
-use Rattle.schedule_text.proofs.Left.{left_behind, left_fails, none_left}
+use Rattle.schedule_text.proofs.Left.{behind_none, left_behind, left_fails, none_left}
 use Rattle.schedule_input.specs.Places.{Place}
 use Rattle.schedule_input.specs.declared.fault.InputFault.{InputFault}
 use Rattle.schedule_input.specs.declared.fault.InputFault.TheVariants as faults
-use Rattle.schedule_input.specs.declared.lines.Step.{Step}
-use Rattle.schedule_input.specs.Inputs.{to_come, Leads, IsOver, IsLast, IsNext, IsTold, Fails, step_of, Steps, Further, GoesOn}
+use Rattle.schedule_input.specs.Inputs.{to_come, Leads, IsOver, IsLast, IsNext, IsFound, IsTold, Fails}
 use Rattle.schedule_input.proofs.Cutting.{past_line}
 
 abbrev pub place : LineReader → ℕ → ℕ → List ℕ → Place
@@ -130,17 +129,33 @@ fails_told p fault (faults.Bad number kind) a b c h t later = h number kind t
 fails_told p fault faults.ReadFault a b c h t later = omega (arith, later, t)
 fails_told p fault faults.NoMemory a b c h t later = tt
 
--- what it is in the schedule
-pub steps_to : (out : Option NumberedLine) (step : Step) (p q : Place) (a b : Option (List ℕ)) → step ≡ step_of out → Leads (added out) p q a b → Steps p q step a b
-steps_to out step p q a b e k = subst (λ (s : Step). Steps p q s a b) (sym e) (by out k)
-  where
-    by : (out : Option NumberedLine) → Leads (added out) p q a b → Steps p q (step_of out) a b
-    by None k = k
-    by (Some line) k = k
+-- ---- a line that was read and not yet taken
 
-pub goes_to : (out : Option NumberedLine) (step : Step) (p q : Place) → step ≡ step_of out → Further p q → (IsSome out → q.reader.begun ≡ true) → GoesOn p q step
-goes_to out step p q e f begun = subst (λ (s : Step). GoesOn p q s) (sym e) (by out begun)
-  where
-    by : (out : Option NumberedLine) → (IsSome out → q.reader.begun ≡ true) → GoesOn p q (step_of out)
-    by None begun = f
-    by (Some line) begun = (f, begun refl)
+module _ (r : LineReader) (number end n : ℕ) (old new : List ℕ) where
+  pub found_leads : (before after : Option (List ℕ)) → IsNext n old new end before after → Leads [] (place r number end old) (place r number end new) before after
+  found_leads None after k = tt
+  found_leads (Some rest) None k = absurd k.read.consumed
+  found_leads (Some rest) (Some now) k =
+      ap (schedule_left r number end) (grown_with old new k.read.bytes rest now k.read.grown k.read.consumed) ∙ sym (behind_none (schedule_left r number end (new ++ now)))
+
+  pub found : (before after : Option (List ℕ)) → end ≤ 67108864 → n ≤ length new → IsNext n old new end before after → IsFound n (place r number end old) (place r number end new) before after
+  found before after few within k = record {
+    leads = found_leads before after k;
+    over = λ e. none_is_over r number end old new before after few (subst (λ (m : ℕ). IsNext m old new end before after) e k);
+    ends = k.ends;
+    within = within;
+    same = refl;
+  }
+
+pub found_ok : (r : LineReader) (number end : ℕ) (old new : List ℕ) (before after : Option (List ℕ)) (p : Place) (read : Result ℕ InputFault) → place r number end old ≡ p → end ≤ 67108864
+    → IfOk read (λ n. IsNext n old new end before after) → IfOk read (λ n. n ≤ length new) → IfOk read (λ n. IsFound n p (place r number end new) before after)
+found_ok r number end old new before after p (Ok n) e few k within =
+    subst (λ (q : Place). IsFound n q (place r number end new) before after) e (found r number end n old new before after few within k)
+found_ok r number end old new before after p (Err fault) e few k within = tt
+
+consumes_none : (a : Option (List ℕ)) → Consumes a a []
+consumes_none None = tt
+consumes_none (Some xs) = refl
+
+pub next_of : (n : ℕ) (bytes : List ℕ) (end : ℕ) (a : Option (List ℕ)) → EndsAt n bytes ⊎ IsLast n bytes end a → IsNext n bytes bytes end a a
+next_of n bytes end a k = record { read = record { bytes = []; grown = sym (append-nil bytes); consumed = consumes_none a }; ends = k }

@@ -1,5 +1,5 @@
 -- What is read of an input that should be a schedule.
-use Rattle.std.specs.Prelude.{⊤, ◌≡◌, ◌≤◌, ◌<◌, ◌⊎◌, ℕ, ◌+◌, List, [], ◌∷◌, ◌++◌, take, length, Bool, true, false, Option, Some, None, Result, Ok, Err, IfSome}
+use Rattle.std.specs.Prelude.{⊤, ◌≡◌, ◌≤◌, ◌<◌, ◌⊎◌, ℕ, ◌+◌, List, [], ◌∷◌, ◌++◌, take, length, Bool, true, false, Option, Some, None, Result, Ok, Err, IfSome, IsSome}
 use Rattle.std.specs.Io.KnownBytes.{Consumes, IsAtEnd}
 use Rattle.tool_io.specs.Causes.{Rose}
 use Rattle.tool_io.specs.Ends.{End}
@@ -13,8 +13,6 @@ use Rattle.schedule_text.specs.Lines.{EndsAt}
 use Rattle.schedule_text.specs.Reading.{Bad, schedule_of, schedule_left, behind_lines}
 use Rattle.schedule_input.specs.declared.fault.InputFault.{InputFault}
 use Rattle.schedule_input.specs.declared.fault.InputFault.TheVariants as faults
-use Rattle.schedule_input.specs.declared.lines.Step.{Step}
-use Rattle.schedule_input.specs.declared.lines.Step.TheVariants as steps
 use Rattle.schedule_input.specs.Places.{Place}
 
 -- where the input is known, it is this schedule, or has this first bad line
@@ -73,26 +71,15 @@ Gives old new (Ok (Some line)) before after = Leads (line ∷ []) old new before
 Gives old new (Ok None) before after = IsOver old new before.bytes after.bytes
 Gives old new (Err fault) before after = Fails old fault before after
 
-abbrev pub step_of : Option NumberedLine → Step
-step_of None = steps.Passed
-step_of (Some line) = steps.Line line
-
--- one line of the text
-abbrev pub Steps : Place → Place → Step → Option (List ℕ) → Option (List ℕ) → Type 0
-Steps old new steps.Passed before after = Leads [] old new before after
-Steps old new (steps.Line line) before after = Leads (line ∷ []) old new before after
-Steps old new steps.End before after = IsOver old new before after
-
 -- the lines of more bytes were read
 pub record Further (old new : Place) : Type 0 where
   pub longer : old.end < new.end
   pub few : new.end ≤ 67108864
 
 -- a line was read, and the reader has begun where it is one of the schedule
-abbrev pub GoesOn : Place → Place → Step → Type 0
-GoesOn old new steps.Passed = Further old new
-GoesOn old new (steps.Line line) = Further old new × (new.reader.begun ≡ true)
-GoesOn old new steps.End = ⊤
+pub record GoesOn (old new : Place) (line : Option NumberedLine) : Type 0 where
+  pub further : Further old new
+  pub begun : IsSome line → new.reader.begun ≡ true
 
 abbrev pub NextIsFurther : Place → Place → Option NumberedLine → Type 0
 NextIsFurther old new (Some line) = Further old new × (new.reader.begun ≡ true)
@@ -129,6 +116,14 @@ pub record IsLast (n : ℕ) (bytes : List ℕ) (end : ℕ) (after : Option (List
 pub record IsNext (n : ℕ) (old new : List ℕ) (end : ℕ) (before after : Option (List ℕ)) : Type 0 where
   pub read : Grown old new before after
   pub ends : EndsAt n new ⊎ IsLast n new end after
+
+-- the next line has so many bytes, which were read, and is still to be taken; it has none at the end
+pub record IsFound (n : ℕ) (old new : Place) (before after : Option (List ℕ)) : Type 0 where
+  pub leads : Leads [] old new before after
+  pub over : n ≡ 0 → IsOver old new before after
+  pub ends : EndsAt n new.left ⊎ IsLast n new.left new.end after
+  pub within : n ≤ length new.left
+  pub same : new.end ≡ old.end
 
 -- the law that a text of more bytes than a schedule has is judged by its first 67,108,865 bytes
 abbrev pub LongTextsAreCut : Type 0

@@ -1,7 +1,8 @@
 //! The lines of a schedule, as they are read from an input.
-ghost use Rattle.std.specs.Prelude.{◌≡◌, ◌≤◌, [], length, IfOk, IfErr, OnOk};
-ghost use Rattle.schedule_text.specs.Reading.{at_start, with_lines, KeepsCap};
-ghost use Rattle.schedule_input.specs.Inputs.{Gives, Steps, step_of, Fails, GoesOn, NextIsFurther};
+ghost use Rattle.std.specs.Prelude.{◌≡◌, ◌≤◌, ◌<◌, ◌⊎◌, [], length, IfOk, IfErr, OnOk};
+ghost use Rattle.schedule_text.specs.Lines.{EndsAt};
+ghost use Rattle.schedule_text.specs.Reading.{added, at_start, with_lines, KeepsCap};
+ghost use Rattle.schedule_input.specs.Inputs.{Gives, IsFound, IsLast, Leads, Fails, GoesOn, NextIsFurther};
 
 use crate::fault::InputFault;
 use crate::piece::{MOST_BYTES, fault_behind, read_line};
@@ -13,27 +14,6 @@ use tool_io::Source;
 
 /// So many bytes are read at once.
 const PIECE: usize = 65_536;
-
-/// What a line of a text is in a schedule.
-#[derive(Drop)]
-pub(crate) enum Step {
-    /// None of its lines.
-    Passed,
-    Line(NumberedLine),
-    /// There is no line any more.
-    End,
-}
-
-impl Step {
-    fn of(line: Option<NumberedLine>) -> Step
-        ensures { result ≡ step_of line }
-    {
-        match line {
-            Some(line) => Step::Line(line),
-            None => Step::Passed,
-        }
-    }
-}
 
 /// The lines of a schedule that is read from an input, one after the other. What is held is the longest line so far, or a piece of
 /// 65,536 bytes, and the commands of a transaction that isn't committed yet.
@@ -99,19 +79,33 @@ impl InputLines {
         self.reader.bytes
     }
 
-    // Reads a line of the text. Where it is none of a schedule, the rest of the input is read too, since a read that fails goes
-    // before a bad line.
-    fn step<S: Source>(&mut self, alloc: Global, input: &mut S) -> Result<Step, InputFault>
-        ensures ok { IfOk result (λ step. Steps self.old self.new step (S.end input.old).bytes (S.end input.new).bytes) }
+    // Reads on to the end of the next line of the text. Answers how many bytes it has: none at the end.
+    fn find_line<S: Source>(&mut self, input: &mut S) -> Result<usize, InputFault>
+        ensures found { IfOk result (λ n. IsFound n self.old self.new (S.end input.old).bytes (S.end input.new).bytes) }
         ensures keeps { OnOk result (KeepsCap self.old.reader self.new.reader) }
-        ensures goes_on { IfOk result (λ step. GoesOn self.old self.new step) }
         ensures err { IfErr result (λ e. Fails self.old e (S.end input.old) (S.end input.new)) }
         ensures later { (S.end input.old).faults ≤ (S.end input.new).faults }
     {
-        let count = read_line(&mut self.unread, &mut self.piece, self.end, input)?;
-        if count == 0 {
-            return Ok(Step::End);
-        }
+        read_line(&mut self.unread, &mut self.piece, self.end, input)
+    }
+
+    // Takes the next line of the text, of so many bytes. Where it is none of a schedule, the rest of the input is read too, since a
+    // read that fails goes before a bad line.
+    fn take_line<S: Source>(
+        &mut self,
+        alloc: Global,
+        count: usize,
+        input: &mut S,
+    ) -> Result<Option<NumberedLine>, InputFault>
+        requires some { 0 < count }
+        requires within { count ≤ length self.old.left }
+        requires ends { EndsAt count self.old.left ⊎ IsLast count self.old.left self.old.end (S.end input.old).bytes }
+        ensures ok { IfOk result (λ line. Leads (added line) self.old self.new (S.end input.old).bytes (S.end input.new).bytes) }
+        ensures keeps { OnOk result (KeepsCap self.old.reader self.new.reader) }
+        ensures goes_on { IfOk result (λ line. GoesOn self.old self.new line) }
+        ensures err { IfErr result (λ e. Fails self.old e (S.end input.old) (S.end input.new)) }
+        ensures later { (S.end input.old).faults ≤ (S.end input.new).faults }
+    {
         let end = self.end + count;
         match self
             .reader
@@ -121,7 +115,7 @@ impl InputLines {
                 self.unread.take(count);
                 self.end = end;
                 self.number += 1;
-                Ok(Step::of(line))
+                Ok(line)
             }
             Err(fault) => {
                 let room = MOST_BYTES - self.end - self.unread.bytes().len();
@@ -143,10 +137,13 @@ impl InputLines {
         ensures later { (S.end input.old).faults ≤ (S.end input.new).faults }
     {
         'lines: loop {
-            match self.step(alloc, input)? {
-                Step::Passed => {}
-                Step::Line(line) => return Ok(Some(line)),
-                Step::End => return Ok(None),
+            let count = self.find_line(input)?;
+            if count == 0 {
+                return Ok(None);
+            }
+            let line = self.take_line(alloc, count, input)?;
+            if line.is_some() {
+                return Ok(line);
             }
         }
     }

@@ -1,4 +1,4 @@
-//! Worked schedules, lines that are none of a schedule, and a worked drill.
+//! Worked schedules, lines that are none of a schedule, a worked drill, and plain documents.
 #![tactic(auto)]
 
 #[cfg(test)]
@@ -7,3 +7,5 @@ mod drills;
 mod faults;
 #[cfg(test)]
 mod lines;
+#[cfg(test)]
+mod plain;

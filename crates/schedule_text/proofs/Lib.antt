@@ -12,3 +12,4 @@ pub mod SaidBack
 pub mod Steps
 pub mod StepsBack
 pub mod LineCaps
+pub mod PlainOperands

@@ -1,5 +1,5 @@
 -- What a line does to the cap.
-use Rattle.std.proofs.Common.{◌≡◌, ℕ, ◌≤◌, Bool, true, List, [], ◌∷◌, refl, sym, ap, ◌∙◌, arith, inl, inr, subst}
+use Rattle.std.proofs.Common.{◌≡◌, ℕ, ◌≤◌, Bool, true, List, [], refl, sym, ap, arith, inl, inr, subst}
 use Rattle.std.specs.Prelude.{◌⊎◌, Option, Some, None, Result, Ok, Err, OnOk, cond}
 use Rattle.json_text.specs.Grammar.{ReadIsJson}
 use Rattle.schedule_model.specs.declared.command.DocumentCommand.{DocumentCommand}

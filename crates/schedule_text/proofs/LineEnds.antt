@@ -1,11 +1,13 @@
 -- Lines and their ends, both ways.
 use Rattle.std.proofs.Common.{◌≡◌, ℕ, zero, suc, ◌+◌, ◌-◌, ◌<◌, ◌≤◌, true, false, List, [], ◌∷◌, ◌++◌, length, take, drop, refl, sym, ap, ◌∙◌, arith, inl, inr, subst, length-append, append_assoc, append-nil, eqb-true, eq-eqb}
-use Rattle.std.specs.Prelude.{◌==◌, ◌≢◌, Bool, if◌then◌else◌, not, nat_lt, map, slice_index, position, Some, None}
+use Rattle.std.specs.Prelude.{◌==◌, ◌≢◌, Bool, if◌then◌else◌, not, nat_lt, map, slice_index, position, Option, Some, None}
 use Rattle.std.specs.List.{position_or_len, before_first, after_first}
 use Rattle.std.proofs.lemmas.Bool.{cases_Bool}
 use Rattle.std.proofs.lemmas.Bool.Decides.{nat_tests}
 use Rattle.std.proofs.lemmas.List.{take_at, drop_at, get_or_at}
 use Rattle.std.proofs.lemmas.List.Folds.{list_all-append, length-prefix_len}
+use Rattle.std.proofs.lemmas.List.Sums.{position_or_len_is}
+use Rattle.memchr.specs.Find.{IsFirstByte, Passes}
 use Rattle.schedule_text.specs.Lines.{onto_first, begun, whole_lines, EndsAt, front, ends_with, without_return, content}
 use Rattle.schedule_text.specs.Words.{lacks}
 use Rattle.schedule_text.specs.Grammar.{AreLines, no_lines, last_line, ended, returned}
@@ -247,3 +249,23 @@ begins_first (b ∷ d ∷ w) more n e =
     let f = not_true (b == 10) p.0 in
     let k = begins_first (d ∷ w) more (λ x. cc) p.1 in
     record { more = k.more; others = k.others; lines = ap (begun b) k.lines ∙ begun_other b ((d ∷ (w ++ k.more)) ∷ k.others) f }
+
+-- ---- the first place of a byte
+
+module _ (test : ℕ → Bool) (hay : List ℕ) where
+  fails : (k : ℕ) → (Passes test hay k → ⊥) → test (slice_index hay k) ≡ false
+  fails k n = elim (cases_Bool (test (slice_index hay k))) [
+    | inl t ↦ absurd (n t)
+    | inr f ↦ f
+  ]
+
+  -- what a search for a byte answers
+  pub first_place : (r : Option ℕ) → IsFirstByte test hay r → r ≡ position test hay
+  first_place None h =
+      let end = position_or_len_is test hay (length hay) 0 (omega arith) (λ k l. fails k (h k (omega arith) l)) (λ l. absurd (omega (arith, l))) in
+      let past : nat_lt (position_or_len test hay) (length hay) ≡ false = rw end (grind (arith, nat_tests)) in
+      rw past refl
+  first_place (Some k) h =
+      let at = position_or_len_is test hay k 0 (omega (arith, h.0.high)) (λ j l. fails j (h.0.before j (omega arith) l)) (λ l. h.1) in
+      let within : nat_lt (position_or_len test hay) (length hay) ≡ true = rw at (let l = h.0.high in grind (arith, nat_tests)) in
+      rw (within, at) refl

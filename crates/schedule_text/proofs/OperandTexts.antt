@@ -1,5 +1,5 @@
 -- The texts of numbers, names and documents, both ways.
-use Rattle.std.proofs.Common.{◌≡◌, ℕ, ◌≤◌, true, false, List, [], ◌∷◌, refl, sym, ap, ◌∙◌, arith, inl, inr}
+use Rattle.std.proofs.Common.{◌≡◌, ℕ, ◌≤◌, true, false, List, [], refl, sym, ap, ◌∙◌, arith, inl, inr}
 use Rattle.std.specs.Prelude.{◌&&◌, nat_le, Option, Some, None, codes, Result, Ok, Err}
 use Rattle.std.proofs.lemmas.Bool.{cases_Bool}
 use Rattle.std.proofs.lemmas.Bool.Decides.{nat_tests}
@@ -9,7 +9,7 @@ use Rattle.bson_value.proofs.Digits.{index_of-digits, index_of-is}
 use Rattle.bson_value.specs.declared.value.Value.{Value, Value-F, out-Value}
 use Rattle.json_tree.specs.declared.tree.Tree.{Tree}
 use Rattle.json_text.specs.Reading.{tree_of_text, value_with, after_space}
-use Rattle.json_text.specs.Grammar.{Json, JsonIsRead, ReadIsJson}
+use Rattle.json_text.specs.Grammar.{JsonIsRead, ReadIsJson}
 use Rattle.extjson.specs.Values.{value_of}
 use Rattle.schedule_text.specs.declared.fault.LineKind.{LineKind}
 use Rattle.schedule_text.specs.declared.fault.LineKind.TheVariants as kinds

@@ -11,7 +11,6 @@ use Rattle.bson_value.specs.declared.value.Value.{Value}
 use Rattle.json_text.specs.Grammar.{ReadIsJson}
 use Rattle.schedule_model.specs.declared.command.DocumentCommand.TheVariants as documents
 use Rattle.schedule_model.specs.declared.command.Command.TheVariants as commands
-use Rattle.schedule_model.specs.declared.line.Line.{Line}
 use Rattle.schedule_model.specs.declared.line.Line.TheVariants as lines
 use Rattle.schedule_text.specs.declared.fault.LineKind.TheVariants as kinds
 use Rattle.schedule_text.specs.declared.verb.Verb.{Verb}
@@ -19,7 +18,7 @@ use Rattle.schedule_text.specs.declared.verb.Verb.TheVariants as verbs
 use Rattle.schedule_text.specs.declared.verb.Context.{Context}
 use Rattle.schedule_text.specs.declared.statement.Statement.{Statement}
 use Rattle.schedule_text.specs.declared.statement.Statement.TheVariants as statements
-use Rattle.schedule_text.specs.Words.{form_of, lacks, is_empty, is_word, is_first, is_second, takes, may_stand, Words, words_of, least, most, is_inside, is_at_start}
+use Rattle.schedule_text.specs.Words.{form_of, lacks, is_empty, is_word, is_first, is_second, takes, may_stand, words_of, least, most, is_inside, is_at_start}
 use Rattle.schedule_text.specs.Operands.{Doc, Read, ◌>>=◌, some_or, number_in, name_of, document_in, identified, alone}
 use Rattle.schedule_text.specs.Statements.{command, document, bare, with_one, update, with_two, statement_of}
 use Rattle.schedule_text.specs.Reading.{text_in, said}

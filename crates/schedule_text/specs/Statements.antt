@@ -6,7 +6,6 @@ use Rattle.schedule_model.specs.declared.command.DocumentCommand.{DocumentComman
 use Rattle.schedule_model.specs.declared.command.DocumentCommand.TheVariants as documents
 use Rattle.schedule_model.specs.declared.command.Command.{Command}
 use Rattle.schedule_model.specs.declared.command.Command.TheVariants as commands
-use Rattle.schedule_model.specs.declared.line.Line.{Line}
 use Rattle.schedule_model.specs.declared.line.Line.TheVariants as lines
 use Rattle.schedule_text.specs.declared.fault.LineKind.TheVariants as kinds
 use Rattle.schedule_text.specs.declared.verb.Verb.{Verb}

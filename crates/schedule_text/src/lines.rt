@@ -4,10 +4,12 @@ ghost use Rattle.schedule_text.specs.Words.{lacks};
 ghost use Rattle.schedule_text.specs.Lines.{whole_lines, EndsAt, without_return, content};
 ghost use Rattle.schedule_text.specs.Reading.{is_passed};
 
+use memchr::memchr;
+
 fn line_feed(bytes: &[u8]) -> Option<usize>
     ensures { result ≡ position (λ b. b == 10) bytes.now }
 {
-    bytes.iter().position(|b| *b == b'\n')
+    memchr(b'\n', bytes)
 }
 
 /// The place behind the first line feed, where there is one.

@@ -7,6 +7,7 @@ use bson_value::{Doc, NsName, Value, index_of};
 use extjson::ExtFault;
 use json_text::{JsonFault, parse};
 use json_tree::Tree;
+use plain_json::plain_document;
 use std::alloc::Global;
 
 /// A number within these bounds.
@@ -63,14 +64,25 @@ fn document_of(value: Value) -> Result<Doc, StatementFault>
     }
 }
 
-/// The document that a JSON text is.
+// The same by the text's tree.
 #[tactic(auto, unfolding(crate::specs::Operands::document_in))]
-pub(crate) fn document(alloc: Global, text: &str) -> Result<Doc, StatementFault>
+fn document_by_tree(alloc: Global, text: &str) -> Result<Doc, StatementFault>
     ensures { Gives (λ d. d) result (document_in text.now) }
 {
     let tree = tree(alloc, text)?;
     let value = value(alloc, &tree)?;
     document_of(value)
+}
+
+/// The document that a JSON text is. A plain one is read without its tree.
+pub(crate) fn document(alloc: Global, text: &str) -> Result<Doc, StatementFault>
+    ensures { Gives (λ d. d) result (document_in text.now) }
+{
+    let plain = plain_document(alloc, text)?;
+    match plain {
+        Some(doc) => Ok(doc),
+        None => document_by_tree(alloc, text),
+    }
 }
 
 /// The `_id` of a document, and its other fields.

@@ -1,5 +1,5 @@
 //! Reading a schedule line by line.
-ghost use Rattle.std.specs.Prelude.{◌≡◌, ◌≤◌, [], true, IfOk, OnOk, IsSome};
+ghost use Rattle.std.specs.Prelude.{◌≡◌, ◌≤◌, [], true, Ok, IfOk, OnOk, IsSome};
 ghost use Rattle.schedule_text.specs.Reading.{at_start, context_of, with_document, behind, says, said, after_line, with_lines, added, KeepsCap, Gives};
 
 use crate::fault::{LineFault, LineKind, StatementFault};
@@ -10,7 +10,7 @@ use crate::verb::Context;
 use bson_value::List;
 use json_text::read_is_json;
 use schedule_model::{Command, DocumentCommand, Line};
-use std::alloc::{AllocError, Global};
+use std::alloc::Global;
 
 /// The most bytes of a schedule.
 const BYTES_LIMIT: usize = 67108864;
@@ -61,8 +61,8 @@ impl LineReader {
         &mut self,
         number: u32,
         command: DocumentCommand,
-    ) -> Result<Option<NumberedLine>, AllocError>
-        ensures { IfOk result (λ line. with_lines self.new (added line) ≡ with_document (with_lines self.old []) number command self.old.transaction) }
+    ) -> Result<Option<NumberedLine>, LineFault>
+        ensures { Gives (λ line. with_lines self.new (added line)) result (Ok (with_document (with_lines self.old []) number command self.old.transaction)) }
     {
         match &mut self.transaction {
             Some(commands) => {
@@ -95,8 +95,8 @@ impl LineReader {
         alloc: Global,
         number: u32,
         statement: Statement,
-    ) -> Result<Option<NumberedLine>, AllocError>
-        ensures { IfOk result (λ line. with_lines self.new (added line) ≡ behind (with_lines self.old []) number statement) }
+    ) -> Result<Option<NumberedLine>, LineFault>
+        ensures { Gives (λ line. with_lines self.new (added line)) result (Ok (behind (with_lines self.old []) number statement)) }
     {
         match statement {
             Statement::Cap { entries, bytes } => {
@@ -124,7 +124,7 @@ impl LineReader {
         match said(alloc, self.context(), line) {
             Ok(statement) => {
                 self.begun = true;
-                Ok(self.take(alloc, number, statement)?)
+                self.take(alloc, number, statement)
             }
             Err(StatementFault::NoMemory) => Err(LineFault::NoMemory),
             Err(StatementFault::Bad(kind)) => Err(LineFault::Bad { line: number, kind }),

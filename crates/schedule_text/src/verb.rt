@@ -43,7 +43,13 @@ impl Verb {
     pub(crate) fn named(word: &str) -> Option<Verb>
         ensures { result ≡ verb_of word.now }
     {
+        // Most lines are of the first few.
         match word {
+            "insert" => Some(Verb::Insert),
+            "update" => Some(Verb::Update),
+            "replace" => Some(Verb::Replace),
+            "delete" => Some(Verb::Delete),
+            "copy" => Some(Verb::Copy),
             "oplog" => Some(Verb::Oplog),
             "record" => Some(Verb::Record),
             "at" => Some(Verb::At),
@@ -51,14 +57,9 @@ impl Verb {
             "drop" => Some(Verb::DropColl),
             "dropDatabase" => Some(Verb::DropDatabase),
             "rename" => Some(Verb::Rename),
-            "insert" => Some(Verb::Insert),
-            "replace" => Some(Verb::Replace),
-            "update" => Some(Verb::Update),
-            "delete" => Some(Verb::Delete),
             "createIndex" => Some(Verb::CreateIndex),
             "dropIndex" => Some(Verb::DropIndex),
             "dump" => Some(Verb::Dump),
-            "copy" => Some(Verb::Copy),
             "mark" => Some(Verb::Mark),
             "tail" => Some(Verb::Tail),
             "begin" => Some(Verb::Begin),

@@ -1,4 +1,3 @@
-use Rattle.std.proofs.Common.{◌-◌}
 use Rattle.schedule_text.proofs.DrillRows.{all_rows, row_put, rows_done}
 use Rattle.schedule_text.proofs.drill_text.lines.Goals as goal
 

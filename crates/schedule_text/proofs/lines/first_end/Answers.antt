@@ -1,4 +1,4 @@
-use Rattle.schedule_text.proofs.LineEnds.{first_line_cut, end_within, no_feed}
+use Rattle.schedule_text.proofs.LineEnds.{first_line_cut, no_feed}
 use Rattle.schedule_text.proofs.lines.first_end.Goals as goal
 
 pub returns-in-Some-clause-lines : goal.returns-in-Some-clause-lines
