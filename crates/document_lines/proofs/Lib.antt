@@ -7,4 +7,5 @@ pub mod JsonPieces
 pub mod LeafTexts
 pub mod NumberTexts
 pub mod PlainArrays
+pub mod PlainDocuments
 pub mod Texts

@@ -12,15 +12,15 @@ use Rattle.bson_encode.proofs.Numbered.{count_back}
 use Rattle.bson_view.specs.Meaning.{AreValue, IsLeaf}
 use Rattle.bson_view.specs.Parts.{Part, AreElementsOf, bytes_of, part_bytes, part_value, values_of}
 use Rattle.bson_view.proofs.Sizes.{frame_size}
-use Rattle.document_lines.proofs.InOrder.{array_spelled, of_array, ordered_is}
+use Rattle.document_lines.proofs.InOrder.{array_spelled, element_put, of_array, ordered_is}
 
--- an element that holds no others
+-- an element whose value lies as it is spelled in order
+pub ordered_item : (name : List ℕ) (tag : ℕ) (b : List ℕ) (v : Value) → tag ≡ tag_of v → b ≡ spelled (ordered v) → tag ∷ ((name ++ 0 ∷ []) ++ b) ≡ element (name, spelling (ordered v))
+ordered_item name tag b v k is = ap (λ (c : List ℕ). tag ∷ ((name ++ 0 ∷ []) ++ c)) is ∙ element_put [] name tag v k
+
+-- one whose value holds no others
 pub plain_item : (name : List ℕ) (tag : ℕ) (b : List ℕ) (v : Value) → tag ≡ tag_of v → IsLeaf (out-Value v) → b ≡ spelled v → tag ∷ ((name ++ 0 ∷ []) ++ b) ≡ element (name, spelling (ordered v))
-plain_item name tag b v k l is =
-    ap (λ (n : ℕ). n ∷ ((name ++ 0 ∷ []) ++ b)) k
-    ∙ (ap (λ (c : List ℕ). tag_of v ∷ ((name ++ 0 ∷ []) ++ c)) is
-    ∙ (ap (λ (c : List ℕ). tag_of v ∷ c) (append_assoc name (0 ∷ []) (spelled v))
-    ∙ ap (λ (w : Value). element (name, spelling w)) (sym (ordered_is v l))))
+plain_item name tag b v k l is = ordered_item name tag b v k (is ∙ ap spelled (sym (ordered_is v l)))
 
 -- the parts lie as their values are spelled in order, named by their places from this one on
 abbrev pub ArePlain : ℕ → List Part → Type 0
@@ -32,7 +32,7 @@ plain_more n p ps qs is one rest =
     subst (ArePlain n) (sym is)
     (ap (λ (c : List ℕ). c ++ bytes_of ps) one ∙ ap (λ (c : List ℕ). element (decimal n, spelling (ordered (part_value p))) ++ c) rest)
 
-frame_text : (b elements : List ℕ) → AreBytes b → IsFrame b elements → b ≡ framed elements
+pub frame_text : (b elements : List ℕ) → AreBytes b → IsFrame b elements → b ≡ framed elements
 frame_text b elements h f =
     let long : length b ≡ length elements + 5 = omega (arith, frame_size b elements f) in
     let whole : b ≡ f.0 ++ (elements ++ 0 ∷ []) = f.2 ∙ append_assoc f.0 elements (0 ∷ []) in

@@ -2,11 +2,13 @@
 ghost use Rattle.std.specs.Prelude.{◌≡◌, ◌++◌, IfOk, OnOk};
 ghost use Rattle.bson_view.specs.Views.{document};
 ghost use Rattle.bson_view.specs.Held.{held_document};
+ghost use Rattle.document_lines.specs.declared.form.ListForm.TheVariants.{Hex};
 ghost use Rattle.document_lines.specs.Lines.{document_line, in_order, shown};
 
 use crate::digits::put_hex;
 use crate::form::ListForm;
 use crate::json::put_json;
+use crate::plain::is_in_order;
 use crate::spelling::put_ordered;
 use bson_encode::encode_into;
 use bson_value::{Doc, Value};
@@ -18,8 +20,8 @@ use std::alloc::{AllocError, Global};
 /// Makes lines of documents, one after the other, in memory that it keeps.
 ///
 /// A document that is spelled is listed from its bytes: it takes time linear in them, but for the sorting of the fields of each
-/// level, and memory for its line, in hexadecimal for its bytes once more, and for each level a list of its elements. A document
-/// that is built is copied.
+/// level, and memory for its line, in hexadecimal for its bytes once more where they aren't seen to lie in order, and for each
+/// level a list of its elements. A document that is built is copied.
 #[derive(Drop)]
 pub struct Lines {
     alloc: Global,
@@ -36,15 +38,23 @@ impl Lines {
         }
     }
 
+    // A document that lies as it is spelled in order is listed from where it lies.
+    fn put_hexadecimal(&mut self, view: &View<'_>) -> Result<(), AllocError>
+        ensures { OnOk result (self.new.line.items ≡ self.old.line.items ++ shown Hex (in_order (document view.now))) }
+    {
+        if is_in_order(view) {
+            return put_hex(&mut self.line, view.bytes());
+        }
+        self.spelling.clear();
+        put_ordered(self.alloc, &mut self.spelling, view)?;
+        put_hex(&mut self.line, self.spelling.as_slice())
+    }
+
     fn put_spelled(&mut self, view: &View<'_>, form: ListForm) -> Result<(), AllocError>
         ensures { OnOk result (self.new.line.items ≡ self.old.line.items ++ shown form (in_order (document view.now))) }
     {
         match form {
-            ListForm::Hex => {
-                self.spelling.clear();
-                put_ordered(self.alloc, &mut self.spelling, view)?;
-                put_hex(&mut self.line, self.spelling.as_slice())
-            }
+            ListForm::Hex => self.put_hexadecimal(view),
             ListForm::Json => put_json(self.alloc, &mut self.line, view),
         }
     }

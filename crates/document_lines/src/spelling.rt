@@ -9,7 +9,7 @@ ghost use Rattle.bson_view.specs.Parts.{bytes_of, fields_of, values_of};
 ghost use Rattle.document_lines.specs.Elems.{ordered_elems, in_order, AreBelow};
 
 use crate::name_order::order_of_names;
-use crate::plain::is_plain_array;
+use crate::plain::{is_plain_array, is_plain_document};
 use bson_view::{Elem, Elements, View};
 use itoa::Buffer;
 use std::alloc::{AllocError, Global};
@@ -64,7 +64,7 @@ fn put_value(alloc: Global, out: &mut Vec<u8>, elem: &Elem<'_>) -> Result<(), Al
 {
     elem.spells();
     match elem.tag {
-        3 => put_document(alloc, out, elem.elements(), elem.value.len()),
+        3 => put_document_value(alloc, out, elem),
         4 => put_array_value(alloc, out, elem),
         15 => put_scoped(alloc, out, elem),
         _ => {
@@ -72,6 +72,20 @@ fn put_value(alloc: Global, out: &mut Vec<u8>, elem: &Elem<'_>) -> Result<(), Al
             Ok(())
         }
     }
+}
+
+// A document that lies as it is spelled in order is copied whole.
+#[cycle(spell)]
+fn put_document_value(alloc: Global, out: &mut Vec<u8>, elem: &Elem<'_>) -> Result<(), AllocError>
+    requires { elem.now.tag ≡ 3 }
+    ensures { OnOk result (out.new.items ≡ out.old.items ++ spelled (ordered (elem_value elem.now))) }
+{
+    elem.spells();
+    if is_plain_document(elem) {
+        out.extend_from_slice(elem.value)?;
+        return Ok(());
+    }
+    put_document(alloc, out, elem.elements(), elem.value.len())
 }
 
 // An array that lies as it is spelled in order is copied whole.

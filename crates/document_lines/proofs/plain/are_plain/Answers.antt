@@ -1,4 +1,4 @@
-use Rattle.std.proofs.Common.{◌≡◌, ◌+◌, length, ap, arith}
+use Rattle.std.proofs.Common.{length, ap, arith}
 use Rattle.bson_view.specs.Views.{parts_left}
 use Rattle.document_lines.proofs.Fields.{fewer_parts}
 use Rattle.document_lines.proofs.plain.are_plain.Goals as goal

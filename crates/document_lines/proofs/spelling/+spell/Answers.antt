@@ -20,6 +20,18 @@ put_array_value-returns t c =
     let k = of_array e.tag e.value.now (elem_value e) c.spells.ensures.spelled (parts_left c.elements.result) c.requires c.elements.ensures in
     subst (λ (z : List ℕ). OnOk c.put_array.result (c.put_array.new.out.items ≡ c.args.out.now.items ++ z)) (sym (array_spelled _ _ _ k)) c.put_array.ensures
 
+pub put_document_value-put_document-requires : goal.put_document_value-put_document-requires
+put_document_value-put_document-requires t c =
+    let e = c.args.elem.now in
+    let k = of_document e.tag e.value.now (elem_value e) c.spells.ensures.spelled (parts_left c.elements.result) c.requires c.elements.ensures in
+    (omega (arith, k.fits), (k.distinct, k.fits))
+
+pub put_document_value-returns : goal.put_document_value-returns
+put_document_value-returns t c =
+    let e = c.args.elem.now in
+    let k = of_document e.tag e.value.now (elem_value e) c.spells.ensures.spelled (parts_left c.elements.result) c.requires c.elements.ensures in
+    subst (λ (z : List ℕ). OnOk c.put_document.result (c.put_document.new.out.items ≡ c.args.out.now.items ++ z)) (sym (document_spelled _ _ _ k)) c.put_document.ensures
+
 pub put_element-returns : goal.put_element-returns
 put_element-returns t c =
     let e = c.args.elem.now in
@@ -45,18 +57,6 @@ put_scoped-returns t c =
     counted_put c.args.out.now.items _ _ _ c.patch.new.out.items _ c.scope.result.0.now (document_text (in_order (parts_left c.scope.result.1))) c.len-start.result
     (search rules) c.in_ok-extend_from_slice.ensures.items refl c.in_ok-extend_from_slice-2.ensures.items c.in_ok-put_document.ensures c.patch.ensures
     ∙ ap (λ z. c.args.out.now.items ++ z) (sym (scoped_spelled _ _ _ _ k))
-
-pub put_value-put_document-requires : goal.put_value-put_document-requires
-put_value-put_document-requires t c =
-    let e = c.args.elem.now in
-    let k = of_document e.tag e.value.now (elem_value e) c.spells.ensures.spelled (parts_left c.elements.result) c.in-3.is c.elements.ensures in
-    (omega (arith, k.fits), (k.distinct, k.fits))
-
-pub put_value-returns-in-3 : goal.put_value-returns-in-3
-put_value-returns-in-3 t c =
-    let e = c.args.elem.now in
-    let k = of_document e.tag e.value.now (elem_value e) c.spells.ensures.spelled (parts_left c.elements.result) c.in-3.is c.elements.ensures in
-    subst (λ (z : List ℕ). OnOk c.put_document.result (c.put_document.new.out.items ≡ c.args.out.now.items ++ z)) (sym (document_spelled _ _ _ k)) c.put_document.ensures
 
 pub put_value-returns-in_ok-extend_from_slice-in_default :
     goal.put_value-returns-in_ok-extend_from_slice-in_default

@@ -9,6 +9,9 @@ use Rattle.document_lines.proofs.spelling.+spell.Given as goal
 abbrev pub decreases-put_value : goal.decreases-put_value
 decreases-put_value l = 5 * length l.elem.now.value.now + 1
 
+abbrev pub decreases-put_document_value : goal.decreases-put_document_value
+decreases-put_document_value l = 5 * length l.elem.now.value.now
+
 abbrev pub decreases-put_array_value : goal.decreases-put_array_value
 decreases-put_array_value l = 5 * length l.elem.now.value.now
 
