@@ -4,3 +4,4 @@ pub mod Wholes
 pub mod Values
 pub mod Items
 pub mod Members
+pub mod Spans

@@ -1,5 +1,5 @@
 -- One member after the other.
-use Rattle.std.proofs.Common.{◌≡◌, ℕ, ◌<◌, Bool as Truth, true, false, List, [], ◌∷◌, ◌++◌, length, Some, None, Ok, Err, refl, sym, ap, ◌∙◌}
+use Rattle.std.proofs.Common.{◌≡◌, ℕ, ◌<◌, Bool as Truth, true, false, List, [], ◌∷◌, ◌++◌, length, Some, None, Ok, Err, refl, sym, ap, ◌∙◌, subst}
 use Rattle.std.specs.Prelude.{Contains, is_some}
 use Rattle.std.proofs.lemmas.List.Folds.{list_any-append}
 use Rattle.bson_value.specs.declared.value.Value.{Value}
@@ -11,18 +11,24 @@ use Rattle.json_text.proofs.Loop.{Left, starts, shut, goes_on, ends}
 use Rattle.extjson.specs.Values.{Read, ◌>>=◌, value_of, parts_of, fields_value, has_wrapper, without_zero}
 use Rattle.extjson.specs.Wrappers.{wrapper_of}
 use Rattle.extjson.proofs.ReadBack.{no_zero_is}
-use Rattle.plain_json.specs.Reading.{Document, IsValueRead, IsNameRead, IsMemberRead, AreFields, AreMembersRead}
+use Rattle.plain_json.specs.Reading.{Document, IsValueRead, IsNameRead, IsMemberRead, IsMemberPut, AreFields, AreMembersRead}
 use Rattle.plain_json.proofs.NewNames.{no_place}
 
 pub name_read : (before : Document) (bytes name rest : List ℕ) → ((end : ℕ) → string_at end bytes ≡ Ok (name, rest)) → is_some (place_of name before) ≡ false → wrapper_of name ≡ None → (Contains name 0 → ⊥) → IsNameRead (names_of before) (34 ∷ bytes) name rest
 unfolding IsNameRead name_at
 name_read before bytes name rest h new w z = ((λ end done same. rw (h end, no_place name before done same new) refl), w, z)
 
-pub member_read : (levels : ℕ) (before : List (List ℕ)) (bytes name r1 r2 r3 rest : List ℕ) (v : Value) (more : Truth) → IsNameRead before bytes name r1 → ((end : ℕ) → colon_at end (after_space r1) ≡ Ok r2) → IsValueRead levels r2 v r3
+member_read : (levels : ℕ) (before : List (List ℕ)) (bytes name r1 r2 r3 rest : List ℕ) (v : Value) (more : Truth) → IsNameRead before bytes name r1 → ((end : ℕ) → colon_at end (after_space r1) ≡ Ok r2) → IsValueRead levels r2 v r3
     → ((end : ℕ) → more_at 125 end (after_space r3) ≡ Ok (more, rest)) → IsMemberRead levels before bytes name v more rest
 unfolding IsNameRead IsValueRead IsMemberRead member_at
 member_read levels before bytes name r1 r2 r3 rest v more (n, w, z) c (t, f, e) m =
     (t, (λ end done same. rw (n end done same, c end, f end, m end) refl), e, w, z)
+
+-- the member, put behind the fields
+pub member_put : (levels : ℕ) (before after : Document) (bytes name r1 r2 r3 rest : List ℕ) (v : Value) (more : Truth) → after ≡ before ++ (name, v) ∷ [] → IsNameRead (names_of before) bytes name r1 → ((end : ℕ) → colon_at end (after_space r1) ≡ Ok r2) → IsValueRead levels r2 v r3
+    → ((end : ℕ) → more_at 125 end (after_space r3) ≡ Ok (more, rest)) → IsMemberPut levels bytes before after more rest
+unfolding IsMemberPut
+member_put levels before after bytes name r1 r2 r3 rest v more is n c h m = (name, v, is, member_read levels (names_of before) bytes name r1 r2 r3 rest v more n c h m)
 
 abbrev field : List ℕ → Value → List ℕ × Value
 field n v = (n, v)
@@ -70,12 +76,12 @@ module _ (levels : ℕ) (bytes : List ℕ) where
   unfolding AreMembersRead fields_value has_wrapper
   members_shut rest h = ([], (λ end. shut 125 (member_at (value_at levels) end) end bytes rest h), (refl, refl, refl))
 
-  pub members_on : (fs : Document) (rest name : List ℕ) (v : Value) (more : Truth) (after : List ℕ) → IsMemberRead levels (names_of fs) rest name v more after → more ≡ true → length after < length rest → MembersLeft fs rest → MembersLeft (fs ++ (name, v) ∷ []) after
-  unfolding MembersLeft IsMemberRead
-  members_on fs rest name v more after (t, g, d, w, z) m lt (es, f, a) =
-      (es ++ (name, t) ∷ [], (λ end. goes_on (member_at (value_at levels) end) end es rest _ ((name, t) ∷ []) more after (g end es a.2) m lt (f end)), fields_more es fs name t v a d w z)
+  pub members_on : (fs gs : Document) (rest : List ℕ) (more : Truth) (after : List ℕ) → IsMemberPut levels rest fs gs more after → more ≡ true → length after < length rest → MembersLeft fs rest → MembersLeft gs after
+  unfolding MembersLeft IsMemberPut IsMemberRead
+  members_on fs gs rest more after (name, v, is, (t, g, d, w, z)) m lt (es, f, a) =
+      (es ++ (name, t) ∷ [], (λ end. goes_on (member_at (value_at levels) end) end es rest _ ((name, t) ∷ []) more after (g end es a.2) m lt (f end)), subst (AreFields (es ++ (name, t) ∷ [])) (sym is) (fields_more es fs name t v a d w z))
 
-  pub members_end : (fs : Document) (rest name : List ℕ) (v : Value) (more : Truth) (after : List ℕ) → IsMemberRead levels (names_of fs) rest name v more after → more ≡ false → MembersLeft fs rest → AreMembersRead levels bytes (fs ++ (name, v) ∷ []) after
-  unfolding MembersLeft IsMemberRead AreMembersRead
-  members_end fs rest name v more after (t, g, d, w, z) m (es, f, a) =
-      (es ++ (name, t) ∷ [], (λ end. ends (member_at (value_at levels) end) end es rest _ ((name, t) ∷ []) more after (g end es a.2) m (f end)), fields_more es fs name t v a d w z)
+  pub members_end : (fs gs : Document) (rest : List ℕ) (more : Truth) (after : List ℕ) → IsMemberPut levels rest fs gs more after → more ≡ false → MembersLeft fs rest → AreMembersRead levels bytes gs after
+  unfolding MembersLeft IsMemberPut IsMemberRead AreMembersRead
+  members_end fs gs rest more after (name, v, is, (t, g, d, w, z)) m (es, f, a) =
+      (es ++ (name, t) ∷ [], (λ end. ends (member_at (value_at levels) end) end es rest _ ((name, t) ∷ []) more after (g end es a.2) m (f end)), subst (AreFields (es ++ (name, t) ∷ [])) (sym is) (fields_more es fs name t v a d w z))

@@ -14,6 +14,11 @@ pub on_ok : {A E : Type 0} {P Q : A → Type 0} (r : Result A E) → ((x : A) �
 on_ok (Ok x) f h = f x h
 on_ok (Err e) f h = tt
 
+-- the same, from what is so for each end of the text
+pub on_ends : {A E : Type 0} {P : ℕ → A → Type 0} {Q : A → Type 0} (r : Result A E) → ((x : A) → ((end : ℕ) → P end x) → Q x) → ((end : ℕ) → IfOk r (P end)) → IfOk r Q
+on_ends (Ok x) f h = f x h
+on_ends (Err e) f h = tt
+
 pub some_of : {A : Type 0} (N : Type 0) (P : A → Type 0) (r : Option A) → MatchOption r N P → IfSome r P
 some_of N P None h = tt
 some_of N P (Some x) h = h

@@ -1,5 +1,5 @@
 -- What the bytes at the front of a text are read as: the value of the tree that JSON reads.
-use Rattle.std.specs.Prelude.{◌≡◌, ℕ, Bool, false, List, [], ◌∷◌, map, None, Ok, Contains}
+use Rattle.std.specs.Prelude.{◌≡◌, ℕ, Bool, false, List, [], ◌∷◌, ◌++◌, map, None, Ok, Contains}
 use Rattle.containers.specs.Entries.{names_of}
 use Rattle.bson_value.specs.declared.value.Value.{Value}
 use Rattle.bson_value.specs.declared.value.Value.TheVariants as values
@@ -20,6 +20,10 @@ IsValueRead levels bytes v rest = (t : Tree) × ((end : ℕ) → value_at levels
 unfoldable pub IsItemRead : ℕ → List ℕ → Value → Bool → List ℕ → Type 0
 IsItemRead levels bytes v more rest = (t : Tree) × ((end : ℕ) (done : List Tree) → item_at (value_at levels) end done bytes ≡ Ok ((t ∷ [], more), rest)) × (value_of t ≡ Ok v)
 
+-- such a value, put behind the items
+unfoldable pub IsItemPut : ℕ → List ℕ → List Value → List Value → Bool → List ℕ → Type 0
+IsItemPut levels bytes before after more rest = (v : Value) × (after ≡ before ++ v ∷ []) × IsItemRead levels bytes v more rest
+
 -- the values of an array, up to its end
 unfoldable pub AreItemsRead : ℕ → List ℕ → List Value → List ℕ → Type 0
 AreItemsRead levels bytes vs rest = (ts : List Tree) × ((end : ℕ) → list_at 93 (item_at (value_at levels) end) end bytes ≡ Ok (ts, rest)) × (items_value (map value_of ts) ≡ Ok vs)
@@ -39,6 +43,10 @@ IsMemberRead levels before bytes name v more rest =
     (t : Tree)
     × ((end : ℕ) (done : List (List ℕ × Tree)) → names_of done ≡ before → member_at (value_at levels) end done bytes ≡ Ok (((name, t) ∷ [], more), rest))
     × (value_of t ≡ Ok v) × (wrapper_of name ≡ None) × (Contains name 0 → ⊥)
+
+-- such a member, put behind the fields
+unfoldable pub IsMemberPut : ℕ → List ℕ → Document → Document → Bool → List ℕ → Type 0
+IsMemberPut levels bytes before after more rest = (name : List ℕ) × (v : Value) × (after ≡ before ++ (name, v) ∷ []) × IsMemberRead levels (names_of before) bytes name v more rest
 
 -- these members are the fields, and no name of theirs names a wrapper
 abbrev pub AreFields : List (List ℕ × Tree) → Document → Type 0

@@ -72,6 +72,7 @@ fn natural(bytes: &[u8]) -> Result<(u32, &[u8]), Refusal>
 
 /// The number that begins here, and the bytes behind it, where it has at most nine digits and neither
 /// a point nor an exponent.
+#[inline(always)]
 pub(crate) fn int(bytes: &[u8]) -> Result<(i32, &[u8]), Refusal>
     ensures read { IfOk result (λ x. IsIntRead bytes.now x.0 x.1.now) }
     ensures fits { IfOk result (λ x. length x.1.now ≤ length bytes.now) }

@@ -1,7 +1,7 @@
 //! Reading a document.
-ghost use Rattle.std.specs.Prelude.{◌≡◌, ◌<◌, ◌≤◌, ◌++◌, ◌∷◌, [], ℕ, length, IfOk, IfSome};
+ghost use Rattle.std.specs.Prelude.{◌≡◌, ◌<◌, ◌≤◌, ◌++◌, ◌∷◌, [], ℕ, length, IfOk, IfSome, Contains};
 ghost use Rattle.containers.specs.Entries.{IsAbsent, names_of};
-ghost use Rattle.plain_json.specs.Reading.{IsNameRead, IsValueRead, IsItemRead, AreItemsRead, IsArrayRead, IsMemberRead, AreMembersRead, IsObjectRead, IsDocumentOf};
+ghost use Rattle.plain_json.specs.Reading.{IsNameRead, IsValueRead, IsItemPut, AreItemsRead, IsArrayRead, IsMemberPut, AreMembersRead, IsObjectRead, IsDocumentOf};
 
 use crate::names::names_wrapper;
 use crate::numbers::int;
@@ -17,6 +17,7 @@ const MEMBERS: usize = 64;
 const LEVELS: usize = 256;
 
 // A string as a value.
+#[inline(always)]
 fn text(alloc: Global, bytes: &[u8]) -> Result<(Value, &[u8]), Refusal>
     ensures read { (levels : ℕ) → IfOk result (λ x. IsValueRead levels (34 ∷ bytes.now) x.0 x.1.now) }
     ensures fits { IfOk result (λ x. length x.1.now ≤ length bytes.now) }
@@ -45,6 +46,7 @@ fn constant(bytes: &[u8]) -> Result<(Value, &[u8]), Refusal>
 }
 
 // A value that has no parts and is no string.
+#[inline(always)]
 fn leaf(bytes: &[u8]) -> Result<(Value, &[u8]), Refusal>
     ensures read { (levels : ℕ) → IfOk result (λ x. IsValueRead levels bytes.now x.0 x.1.now) }
     ensures fits { IfOk result (λ x. length x.1.now ≤ length bytes.now) }
@@ -61,7 +63,9 @@ fn leaf(bytes: &[u8]) -> Result<(Value, &[u8]), Refusal>
     }
 }
 
+// Inlined where the value is put, with what reads the small ones, since a `Value` is large to hand on.
 #[cycle(object)]
+#[inline(always)]
 fn value(alloc: Global, levels: usize, bytes: &[u8]) -> Result<(Value, &[u8]), Refusal>
     ensures read { IfOk result (λ x. IsValueRead levels bytes.now x.0 x.1.now) }
     ensures fits { IfOk result (λ x. length x.1.now ≤ length bytes.now) }
@@ -95,14 +99,20 @@ fn array(alloc: Global, levels: usize, bytes: &[u8]) -> Result<(List<Value>, &[u
     items(alloc, levels - 1, space(bytes))
 }
 
+// Puts a value behind the items.
 #[cycle(object)]
-fn item(alloc: Global, levels: usize, bytes: &[u8]) -> Result<(Value, bool, &[u8]), Refusal>
-    ensures read { IfOk result (λ x. IsItemRead levels bytes.now x.0 x.1 x.2.now) }
-    ensures fits { IfOk result (λ x. length x.2.now < length bytes.now) }
+fn item<'a>(
+    alloc: Global,
+    levels: usize,
+    items: &mut List<Value>,
+    bytes: &'a [u8],
+) -> Result<(bool, &'a [u8]), Refusal>
+    ensures read { IfOk result (λ x. IsItemPut levels bytes.now items.old items.new x.0 x.1.now) }
+    ensures fits { IfOk result (λ x. length x.1.now < length bytes.now) }
 {
     let (value, rest) = value(alloc, levels, bytes)?;
-    let (more, after) = more(b']', space(rest))?;
-    Ok((value, more, after))
+    items.push(value)?;
+    more(b']', space(rest))
 }
 
 #[cycle(object)]
@@ -116,8 +126,7 @@ fn items(alloc: Global, levels: usize, bytes: &[u8]) -> Result<(List<Value>, &[u
     }
     let mut rest = bytes;
     'items: loop {
-        let (value, more, after) = item(alloc, levels, rest)?;
-        items.push(value)?;
+        let (more, after) = item(alloc, levels, &mut items, rest)?;
         if !more {
             return Ok((items, after));
         }
@@ -138,10 +147,11 @@ fn object(alloc: Global, levels: usize, bytes: &[u8]) -> Result<(Doc, &[u8]), Re
 }
 
 // A name that isn't among these and names no wrapper, and the bytes behind it.
-fn name<'a>(alloc: Global, before: &Doc, bytes: &'a [u8]) -> Result<(CText, &'a [u8]), Refusal>
-    ensures read { IfOk result (λ x. IsNameRead (names_of before.now) bytes.now x.0 x.1.now) }
+fn name<'a>(before: &Doc, bytes: &'a [u8]) -> Result<(&'a str, &'a [u8]), Refusal>
+    ensures read { IfOk result (λ x. IsNameRead (names_of before.now) bytes.now x.0.now x.1.now) }
     ensures fits { IfOk result (λ x. length x.1.now ≤ length bytes.now) }
-    ensures absent { IfOk result (λ x. IsAbsent x.0 (names_of before.now)) }
+    ensures absent { IfOk result (λ x. IsAbsent x.0.now (names_of before.now)) }
+    ensures no_zero { IfOk result (λ x. Contains x.0.now 0 → ⊥) }
 {
     let Some((b'"', rest)) = bytes.split_first() else {
         return Err(Refusal::NotPlain);
@@ -152,25 +162,25 @@ fn name<'a>(alloc: Global, before: &Doc, bytes: &'a [u8]) -> Result<(CText, &'a 
     if MEMBERS <= before.len() || names_wrapper(name) || before.place(name).is_some() {
         return Err(Refusal::NotPlain);
     }
-    Ok((CText::of_text(alloc, name)?, after))
+    Ok((name, after))
 }
 
+// Puts a member behind the fields.
 #[cycle(object)]
 fn member<'a>(
     alloc: Global,
     levels: usize,
-    before: &Doc,
+    doc: &mut Doc,
     bytes: &'a [u8],
-) -> Result<((CText, Value), bool, &'a [u8]), Refusal>
-    ensures read { IfOk result (λ x. IsMemberRead levels (names_of before.now) bytes.now x.0.0 x.0.1 x.1 x.2.now) }
-    ensures fits { IfOk result (λ x. length x.2.now < length bytes.now) }
-    ensures absent { IfOk result (λ x. IsAbsent x.0.0 (names_of before.now)) }
+) -> Result<(bool, &'a [u8]), Refusal>
+    ensures read { IfOk result (λ x. IsMemberPut levels bytes.now doc.old doc.new x.0 x.1.now) }
+    ensures fits { IfOk result (λ x. length x.1.now < length bytes.now) }
 {
-    let (name, rest) = name(alloc, before, bytes)?;
+    let (name, rest) = name(doc, bytes)?;
     let rest = colon(space(rest))?;
     let (value, rest) = value(alloc, levels, rest)?;
-    let (more, after) = more(b'}', space(rest))?;
-    Ok(((name, value), more, after))
+    doc.add(CText::of_text(alloc, name)?, value)?;
+    more(b'}', space(rest))
 }
 
 #[cycle(object)]
@@ -184,8 +194,7 @@ fn members(alloc: Global, levels: usize, bytes: &[u8]) -> Result<(Doc, &[u8]), R
     }
     let mut rest = bytes;
     'members: loop {
-        let ((name, value), more, after) = member(alloc, levels, &doc, rest)?;
-        doc.add(name, value)?;
+        let (more, after) = member(alloc, levels, &mut doc, rest)?;
         if !more {
             return Ok((doc, after));
         }

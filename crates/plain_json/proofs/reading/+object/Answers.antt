@@ -1,8 +1,7 @@
 use Rattle.std.proofs.Common.{sym, arith}
-use Rattle.containers.specs.Entries.{names_of}
-use Rattle.plain_json.proofs.Values.{on_ok, array_value, object_value, array_read, object_read}
-use Rattle.plain_json.proofs.Items.{item_read, items_start, items_shut, items_on, items_end}
-use Rattle.plain_json.proofs.Members.{member_read, members_start, members_shut, members_on, members_end}
+use Rattle.plain_json.proofs.Values.{on_ok, on_ends, array_value, object_value, array_read, object_read}
+use Rattle.plain_json.proofs.Items.{item_put, items_start, items_shut, items_on, items_end}
+use Rattle.plain_json.proofs.Members.{member_put, members_start, members_shut, members_on, members_end}
 use Rattle.plain_json.proofs.reading.+object.Goals as goal
 
 -- ---- arrays
@@ -13,7 +12,7 @@ array-returns-clause-read t c =
 
 pub item-returns-clause-read : goal.item-returns-clause-read
 item-returns-clause-read t c =
-    item_read c.args.levels c.args.bytes.now c.in_ok-value.rest.now _ _ _ c.in_ok-value.ensures.read (λ end. rw c.space.ensures.value at (c.in_ok-more.ensures.gives end))
+    on_ends c.more.result (λ x h. item_put c.args.levels c.args.items.now _ c.args.bytes.now c.in_ok-value.rest.now x.1.now _ x.0 c.in_ok-push.ensures.ok c.in_ok-value.ensures.read (λ end. rw c.space.ensures.value at (h end))) c.more.ensures.gives
 
 pub items-returns-in-Some-clause-read : goal.items-returns-in-Some-clause-read
 items-returns-in-Some-clause-read t c = rw c.new-items.ensures (items_shut c.args.levels c.args.bytes.now c.in-Some.after.now (sym c.in-Some.ensures.value))
@@ -23,12 +22,12 @@ items-items-init t c = record { left = rw c.new-items.ensures (items_start c.arg
 
 pub items-returns-then-not-more-clause-read : goal.items-returns-then-not-more-clause-read
 items-returns-then-not-more-clause-read t c =
-    rw c.in_ok-push.ensures.ok (items_end c.args.levels c.args.bytes.now c.items.items c.items.rest.now _ _ _ c.in_ok-value.ensures.read c.if-not-more.true c.items.invariant.left)
+    items_end c.args.levels c.args.bytes.now c.items.items _ c.items.rest.now _ _ c.in_ok-more.ensures.read c.if-not-more.true c.items.invariant.left
 
 pub items-items-preserved : goal.items-items-preserved
 items-items-preserved t c = record {
-  left = rw c.in_ok-push.ensures.ok (items_on c.args.levels c.args.bytes.now c.items.items c.items.rest.now _ _ _ c.in_ok-value.ensures.read c.if-not-more.false c.in_ok-value.ensures.fits c.items.invariant.left);
-  fits = omega (arith, c.items.invariant.fits, c.in_ok-value.ensures.fits);
+  left = items_on c.args.levels c.args.bytes.now c.items.items _ c.items.rest.now _ _ c.in_ok-more.ensures.read c.if-not-more.false c.in_ok-more.ensures.fits c.items.invariant.left;
+  fits = omega (arith, c.items.invariant.fits, c.in_ok-more.ensures.fits);
 }
 
 -- ---- objects
@@ -39,8 +38,8 @@ object-returns-clause-read t c =
 
 pub member-returns-clause-read : goal.member-returns-clause-read
 member-returns-clause-read t c =
-    member_read c.args.levels (names_of c.args.before.now) c.args.bytes.now _ c.in_ok-name.rest.now c.in_ok-rest.rest.now c.in_ok-value.rest.now _ _ _ c.in_ok-name.ensures.read
-    (λ end. rw c.space.ensures.value at (c.in_ok-rest.ensures.gives end)) c.in_ok-value.ensures.read (λ end. rw c.space-2.ensures.value at (c.in_ok-more.ensures.gives end))
+    on_ends c.more.result (λ x h. member_put c.args.levels c.args.doc.now _ c.args.bytes.now _ c.in_ok-name.rest.now c.in_ok-rest.rest.now c.in_ok-value.rest.now x.1.now _ x.0 (rw c.in_ok-of_text.ensures at c.in_ok-add.ensures.ok) c.in_ok-name.ensures.read
+    (λ end. rw c.space.ensures.value at (c.in_ok-rest.ensures.gives end)) c.in_ok-value.ensures.read (λ end. rw c.space-2.ensures.value at (h end))) c.more.ensures.gives
 
 pub members-returns-in-Some-clause-read : goal.members-returns-in-Some-clause-read
 members-returns-in-Some-clause-read t c = rw c.new-doc.ensures (members_shut c.args.levels c.args.bytes.now c.in-Some.after.now (sym c.in-Some.ensures.value))
@@ -50,12 +49,12 @@ members-members-init t c = record { left = rw c.new-doc.ensures (members_start c
 
 pub members-returns-then-not-more-clause-read : goal.members-returns-then-not-more-clause-read
 members-returns-then-not-more-clause-read t c =
-    rw c.in_ok-add.ensures.ok (members_end c.args.levels c.args.bytes.now c.members.doc c.members.rest.now _ _ _ _ c.in_ok-name.ensures.read c.if-not-more.true c.members.invariant.left)
+    members_end c.args.levels c.args.bytes.now c.members.doc _ c.members.rest.now _ _ c.in_ok-more.ensures.read c.if-not-more.true c.members.invariant.left
 
 pub members-members-preserved : goal.members-members-preserved
 members-members-preserved t c = record {
-  left = rw c.in_ok-add.ensures.ok (members_on c.args.levels c.args.bytes.now c.members.doc c.members.rest.now _ _ _ _ c.in_ok-name.ensures.read c.if-not-more.false c.in_ok-name.ensures.fits c.members.invariant.left);
-  fits = omega (arith, c.members.invariant.fits, c.in_ok-name.ensures.fits);
+  left = members_on c.args.levels c.args.bytes.now c.members.doc _ c.members.rest.now _ _ c.in_ok-more.ensures.read c.if-not-more.false c.in_ok-more.ensures.fits c.members.invariant.left;
+  fits = omega (arith, c.members.invariant.fits, c.in_ok-more.ensures.fits);
 }
 
 -- ---- values
