@@ -1,13 +1,16 @@
 //! The drill: a schedule whose commands a number draws.
-ghost use Rattle.std.specs.Prelude.{◌≡◌, ◌<◌, ◌≤◌, ◌++◌, IfOk, OnOk, string_bytes};
+ghost use Rattle.std.specs.Prelude.{ℕ, ◌≡◌, ◌<◌, ◌≤◌, ◌++◌, IfOk, OnOk};
+ghost use Rattle.std.specs.Fmt.{decimal};
+ghost use Rattle.schedule_text.specs.declared.drill_text.Action.TheVariants.{Insert, Set, Push, Pop, Replace, Delete, Copy};
 ghost use Rattle.schedule_text.specs.DrillText.{next, drawn, action_of, row, start, lines_at, drill_text};
 
 use containers::Bytes;
+use itoa::Buffer;
 use std::alloc::{AllocError, Global};
 
 // The field `p` of an inserted document.
-const PADDING: &str =
-    "xxxxxxxxxxxxxxxxxxxxxxxxxxxxxxxxxxxxxxxxxxxxxxxxxxxxxxxxxxxxxxxxxxxxxxxxxxxxxxxxxxxxxxxxxxxxxxxxxxxx";
+const PADDING: &[u8; 100] =
+    b"xxxxxxxxxxxxxxxxxxxxxxxxxxxxxxxxxxxxxxxxxxxxxxxxxxxxxxxxxxxxxxxxxxxxxxxxxxxxxxxxxxxxxxxxxxxxxxxxxxxx";
 
 /// A linear congruential generator.
 #[derive(Drop)]
@@ -57,28 +60,95 @@ fn action_of(t: u64) -> Action
     }
 }
 
+// A piece of a line, and a number behind it.
+fn put_number(text: &mut Vec<u8>, piece: &[u8], n: u64) -> Result<(), AllocError>
+    ensures { OnOk result (text.new.items ≡ text.old.items ++ (piece.now ++ decimal n)) }
+{
+    let mut digits = Buffer::new();
+    text.extend_from_slice(piece)?;
+    text.extend_from_slice(digits.format(n).as_bytes())
+}
+
+fn put_insert(text: &mut Vec<u8>, j: u64, k: u64, i: u64) -> Result<(), AllocError>
+    ensures { OnOk result (text.new.items ≡ text.old.items ++ row Insert j k i) }
+{
+    put_number(text, b"insert d.c", j)?;
+    put_number(text, b" {\"_id\":", k)?;
+    put_number(text, b",\"a\":[", i)?;
+    put_number(text, b"],\"b\":{\"x\":", i)?;
+    text.extend_from_slice(b"},\"p\":\"")?;
+    text.extend_from_slice(PADDING)?;
+    text.extend_from_slice(b"\"}\n")?;
+    Ok(())
+}
+
+fn put_set(text: &mut Vec<u8>, j: u64, k: u64, i: u64) -> Result<(), AllocError>
+    ensures { OnOk result (text.new.items ≡ text.old.items ++ row Set j k i) }
+{
+    put_number(text, b"update d.c", j)?;
+    put_number(text, b" {\"_id\":", k)?;
+    put_number(text, b",\"$set\":{\"b.x\":", i)?;
+    text.extend_from_slice(b"}}\n")?;
+    Ok(())
+}
+
+fn put_push(text: &mut Vec<u8>, j: u64, k: u64, i: u64) -> Result<(), AllocError>
+    ensures { OnOk result (text.new.items ≡ text.old.items ++ row Push j k i) }
+{
+    put_number(text, b"update d.c", j)?;
+    put_number(text, b" {\"_id\":", k)?;
+    put_number(text, b",\"$push\":{\"a\":", i)?;
+    text.extend_from_slice(b"}}\n")?;
+    Ok(())
+}
+
+fn put_pop(text: &mut Vec<u8>, j: u64, k: u64) -> Result<(), AllocError>
+    ensures { (i : ℕ) → OnOk result (text.new.items ≡ text.old.items ++ row Pop j k i) }
+{
+    put_number(text, b"update d.c", j)?;
+    put_number(text, b" {\"_id\":", k)?;
+    text.extend_from_slice(b",\"$pop\":{\"a\":1}}\n")?;
+    Ok(())
+}
+
+fn put_replace(text: &mut Vec<u8>, j: u64, k: u64) -> Result<(), AllocError>
+    ensures { (i : ℕ) → OnOk result (text.new.items ≡ text.old.items ++ row Replace j k i) }
+{
+    put_number(text, b"replace d.c", j)?;
+    put_number(text, b" {\"_id\":", k)?;
+    text.extend_from_slice(b",\"a\":[],\"b\":{\"x\":0}}\n")?;
+    Ok(())
+}
+
+fn put_delete(text: &mut Vec<u8>, j: u64, k: u64) -> Result<(), AllocError>
+    ensures { (i : ℕ) → OnOk result (text.new.items ≡ text.old.items ++ row Delete j k i) }
+{
+    put_number(text, b"delete d.c", j)?;
+    put_number(text, b" {\"_id\":", k)?;
+    text.extend_from_slice(b"}\n")?;
+    Ok(())
+}
+
+fn put_copy(text: &mut Vec<u8>, j: u64) -> Result<(), AllocError>
+    ensures { (k i : ℕ) → OnOk result (text.new.items ≡ text.old.items ++ row Copy j k i) }
+{
+    put_number(text, b"copy d.c", j)?;
+    text.extend_from_slice(b" 7\n")?;
+    Ok(())
+}
+
 // The line of an action with the collection `j` and the document `k`, at the place `i`.
-fn row(alloc: Global, action: Action, j: u64, k: u64, i: u64) -> Result<String, AllocError>
-    ensures { IfOk result (λ s. string_bytes s ≡ row action j k i) }
+fn put_row(text: &mut Vec<u8>, action: Action, j: u64, k: u64, i: u64) -> Result<(), AllocError>
+    ensures { OnOk result (text.new.items ≡ text.old.items ++ row action j k i) }
 {
     match action {
-        Action::Insert => {
-            format!(in alloc;
-                "insert d.c{j} {{\"_id\":{k},\"a\":[{i}],\"b\":{{\"x\":{i}}},\"p\":\"{PADDING}\"}}\n"
-            )
-        }
-        Action::Set => {
-            format!(in alloc; "update d.c{j} {{\"_id\":{k},\"$set\":{{\"b.x\":{i}}}}}\n")
-        }
-        Action::Push => {
-            format!(in alloc; "update d.c{j} {{\"_id\":{k},\"$push\":{{\"a\":{i}}}}}\n")
-        }
-        Action::Pop => { format!(in alloc; "update d.c{j} {{\"_id\":{k},\"$pop\":{{\"a\":1}}}}\n") }
-        Action::Replace => {
-            format!(in alloc; "replace d.c{j} {{\"_id\":{k},\"a\":[],\"b\":{{\"x\":0}}}}\n")
-        }
-        Action::Delete => format!(in alloc; "delete d.c{j} {{\"_id\":{k}}}\n"),
-        Action::Copy => format!(in alloc; "copy d.c{j} 7\n"),
+        Action::Insert => put_insert(text, j, k, i),
+        Action::Set => put_set(text, j, k, i),
+        Action::Push => put_push(text, j, k, i),
+        Action::Pop => put_pop(text, j, k),
+        Action::Replace => put_replace(text, j, k),
+        Action::Delete => put_delete(text, j, k),
+        Action::Copy => put_copy(text, j),
     }
 }
 
@@ -95,7 +165,6 @@ fn put_start(text: &mut Vec<u8>, n: u64, i: u64) -> Result<(), AllocError>
 // The lines of a place.
 #[tactic(auto, using(crate::proofs::DrillRows::put_both))]
 fn put_lines(
-    alloc: Global,
     text: &mut Vec<u8>,
     generator: &mut Generator,
     n: u64,
@@ -109,9 +178,7 @@ fn put_lines(
     let action = action_of(generator.below(10));
     let j = generator.below(4);
     let k = generator.below(n);
-    let row = row(alloc, action, j, k, i)?;
-    text.extend_from_slice(row.as_bytes())?;
-    Ok(())
+    put_row(text, action, j, k, i)
 }
 
 fn lines(alloc: Global, n: u64) -> Result<Vec<u8>, AllocError>
@@ -125,7 +192,7 @@ fn lines(alloc: Global, n: u64) -> Result<Vec<u8>, AllocError>
     )?;
     let mut generator = Generator { state: n };
     for i in 0..n {
-        put_lines(alloc, &mut text, &mut generator, n, i + 1)?;
+        put_lines(&mut text, &mut generator, n, i + 1)?;
     }
     Ok(text)
 }
