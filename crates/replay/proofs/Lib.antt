@@ -8,5 +8,5 @@ pub mod Calls
 pub mod Folds
 pub mod Faults
 pub mod Spellings
-pub mod OwnField
+pub mod ChangedPlace
 pub mod Items

@@ -86,10 +86,6 @@ abbrev pub IsWithBelow : List ℕ → List ℕ → Option Value → Document →
 IsWithBelow f k None d e = IsCutBelow f k d e
 IsWithBelow f k (Some v) d e = IsPutBelow f k v d e
 
--- the document that is there, changed like this
-abbrev pub IsChanged : NsName → Value → (Document → Document → Type 0) → Rows → ℕ → Document → Type 0
-IsChanged n i r s number e = (d : Document) × IsThere n i s number d × r d e
-
 -- a value that is given holds no others, a field may have the name, and the spelling with it, or without the field, is within the limits
 abbrev pub FitsWith : List ℕ → Option Value → Document → Type 0
 FitsWith k None d = length (cut k (document_text d)) ≤ 16777216

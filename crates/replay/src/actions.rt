@@ -1,5 +1,5 @@
 //! What is done at once: the actions of entries but for groups and definitions.
-ghost use Rattle.std.specs.Prelude.{◌≡◌, ◌+◌, ◌<◌, ◌≤◌, ◌^◌, [], ◌∷◌, OnOk, OnErr, IfOk};
+ghost use Rattle.std.specs.Prelude.{◌≡◌, ◌+◌, ◌<◌, ◌≤◌, ◌^◌, OnOk, OnErr, IfOk};
 ghost use Rattle.bson_value.specs.declared.value.Value.{Object};
 ghost use Rattle.bson_encode.specs.Key.{key_of};
 ghost use Rattle.extjson.specs.Trees.{tree_of};
@@ -152,7 +152,7 @@ fn drop_index(state: &mut State, ns: &NsName, name: &str)
 
 /// Plays an action that is no group, has no definitions and isn't refused. Any other does nothing. Where memory runs out
 /// nothing has changed.
-pub fn play_one(
+pub fn play_action(
     alloc: Global,
     state: &mut State,
     ns: &NsName,

@@ -15,10 +15,10 @@ ghost use Rattle.spliced_documents.specs.Splicing.{IsShortSpelling};
 ghost use Rattle.state_model.specs.Replay.{replay_all};
 ghost use Rattle.coll_state.specs.Rows.{state_of};
 ghost use Rattle.replay.specs.Moves.{deltas};
-ghost use Rattle.replay.specs.Splicing.{FitsThere, FitsWithBelow, IsChanged, IsWithBelow, SaysAt};
+ghost use Rattle.replay.specs.Splicing.{FitsThere, FitsWithBelow, IsWithBelow, SaysAt};
 
-use crate::field::is_id;
-use crate::splicing::own_view;
+use crate::own_field::is_id;
+use crate::splicing::{own_view, replace};
 use bson_value::{NsName, Value};
 use bson_view::{DocumentBytes, Elem, View};
 use coll_state::State;
@@ -46,30 +46,6 @@ fn changed_below(
     }
 }
 
-/// The number of the document of this `_id`, and the document changed like this, where it is kept as its
-/// spelling.
-fn changed_own_below(
-    alloc: Global,
-    state: &State,
-    ns: &NsName,
-    id: &Value,
-    field: &str,
-    name: &str,
-    value: Option<&Elem<'_>>,
-) -> Result<Option<(u128, DocumentBytes)>, AllocError>
-    ensures changed { IfOk result (λ o. IfSome o (λ p. IsChanged ns.now id.now (IsWithBelow field.now name.now (option_map (λ e. elem_value e.now) value.entry)) state.now p.0 (kept_document p.1))) }
-    ensures fits { IfOk result (λ o. IsSome o ↔ FitsThere ns.now id.now (FitsWithBelow field.now name.now (option_map (λ e. elem_value e.now) value.entry)) state.now) }
-    ensures spelling { IfOk result (λ o. IfSome o (λ p. IsShortSpelling (kept_bytes p.1) (kept_document p.1))) }
-{
-    let Some((number, view)) = own_view(state, ns, id) else {
-        return Ok(None);
-    };
-    match changed_below(alloc, &view, field, name, value)? {
-        Some(bytes) => Ok(Some((number, bytes))),
-        None => Ok(None),
-    }
-}
-
 /// Sets a field of the document that the outer field of a document holds to the value of an element, or takes it
 /// out of that one where no element is given. Nothing is built: the document's bytes are copied, and the
 /// element's. `false` exactly where nothing was done: the document isn't there or isn't kept as its spelling, the
@@ -94,11 +70,9 @@ pub fn splice_below(
     if is_id(field) {
         return Ok(false);
     }
-    match changed_own_below(alloc, state, ns, id, field, name, value)? {
-        Some((number, bytes)) => {
-            state.replace_spelling(ns, number, bytes);
-            Ok(true)
-        }
-        None => Ok(false),
-    }
+    let Some((number, view)) = own_view(state, ns, id) else {
+        return Ok(false);
+    };
+    let changed = changed_below(alloc, &view, field, name, value)?;
+    Ok(replace(state, ns, number, changed))
 }

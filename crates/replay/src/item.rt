@@ -1,52 +1,27 @@
 //! An element of an array that a field of a document there holds, set to the value of an element in the bytes.
-ghost use Rattle.std.specs.Prelude.{◌≡◌, ◌↔◌, ◌+◌, ◌<◌, ◌≤◌, ◌^◌, [], ◌∷◌, Some, false, OnErr, IfOk, IfSome, IsSome, IsTrue};
+ghost use Rattle.std.specs.Prelude.{◌≡◌, ◌↔◌, ◌+◌, ◌<◌, ◌≤◌, ◌^◌, [], ◌∷◌, Some, false, OnErr, IfOk, IsTrue};
 ghost use Rattle.std.specs.Str.{bytes_eq};
 ghost use Rattle.bson_encode.specs.Key.{key_of};
-ghost use Rattle.bson_view.specs.Kept.{kept_bytes, kept_document};
 ghost use Rattle.bson_view.specs.Views.{elem_value};
 ghost use Rattle.doc_path.specs.declared.parts.Form.TheVariants.{V2};
 ghost use Rattle.doc_path.specs.declared.parts.Part.TheVariants.{Index, Name};
 ghost use Rattle.doc_path.specs.declared.touches.Touch.{Touch};
 ghost use Rattle.doc_path.specs.Played.{id_name};
 ghost use Rattle.doc_path.specs.Touch.{limit};
-ghost use Rattle.spliced_documents.specs.Splicing.{FitsItem, IsItemPut, IsShortSpelling};
+ghost use Rattle.spliced_documents.specs.Splicing.{FitsItem};
 ghost use Rattle.state_model.specs.Replay.{replay_all};
 ghost use Rattle.coll_state.specs.Rows.{state_of};
 ghost use Rattle.replay.specs.Moves.{deltas};
-ghost use Rattle.replay.specs.Splicing.{FitsThere, IsChanged, SaysAt};
+ghost use Rattle.replay.specs.Splicing.{FitsThere, SaysAt};
 
-use crate::field::is_id;
-use crate::splicing::own_view;
+use crate::own_field::is_id;
+use crate::splicing::{own_view, replace};
 use bson_value::{NsName, Value};
-use bson_view::{DocumentBytes, Elem};
+use bson_view::Elem;
 use coll_state::State;
 use doc_path::INDEX_LIMIT;
 use spliced_documents::with_item;
 use std::alloc::{AllocError, Global};
-
-/// The number of the document of this `_id`, and the document with this element in the array, where it is kept
-/// as its spelling.
-fn changed_item(
-    alloc: Global,
-    state: &State,
-    ns: &NsName,
-    id: &Value,
-    field: &str,
-    index: u32,
-    elem: &Elem<'_>,
-) -> Result<Option<(u128, DocumentBytes)>, AllocError>
-    ensures changed { IfOk result (λ o. IfSome o (λ p. IsChanged ns.now id.now (IsItemPut field.now index (elem_value elem.now)) state.now p.0 (kept_document p.1))) }
-    ensures fits { IfOk result (λ o. IsSome o ↔ FitsThere ns.now id.now (FitsItem field.now index (elem_value elem.now)) state.now) }
-    ensures spelling { IfOk result (λ o. IfSome o (λ p. IsShortSpelling (kept_bytes p.1) (kept_document p.1))) }
-{
-    let Some((number, view)) = own_view(state, ns, id) else {
-        return Ok(None);
-    };
-    match with_item(alloc, &view, field, index as usize, elem)? {
-        Some(bytes) => Ok(Some((number, bytes))),
-        None => Ok(None),
-    }
-}
 
 /// Sets an element of the array that a field of a document holds to the value of an element. Nothing is built:
 /// the document's bytes are copied, and the element's. `false` exactly where nothing was done: the document
@@ -72,11 +47,9 @@ pub fn splice_item(
     if is_id(field) || index as usize >= INDEX_LIMIT {
         return Ok(false);
     }
-    match changed_item(alloc, state, ns, id, field, index, elem)? {
-        Some((number, bytes)) => {
-            state.replace_spelling(ns, number, bytes);
-            Ok(true)
-        }
-        None => Ok(false),
-    }
+    let Some((number, view)) = own_view(state, ns, id) else {
+        return Ok(false);
+    };
+    let changed = with_item(alloc, &view, field, index as usize, elem)?;
+    Ok(replace(state, ns, number, changed))
 }

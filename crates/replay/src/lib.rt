@@ -4,22 +4,22 @@
 mod actions;
 mod counting;
 mod fault;
-mod field;
 mod field_below;
-mod fields;
 mod indexes;
 mod item;
 mod laws;
+mod own_field;
 mod playing;
 mod refusals;
 mod splicing;
+mod touched_fields;
 
-pub use actions::play_one;
+pub use actions::play_action;
 pub use counting::item_count;
 pub use fault::ReplayFault;
-pub use field::splice_field;
 pub use field_below::splice_below;
 pub use item::splice_item;
 pub use laws::made_steps;
+pub use own_field::splice_field;
 pub use playing::replay;
 pub use refusals::is_config;

@@ -7,7 +7,7 @@ ghost use Rattle.replay.specs.Moves.{steps_of, moves_of, item_count, total};
 ghost use Rattle.replay.specs.Refusals.{first_refused, Answers};
 ghost use Rattle.replay.specs.Steps.{Made, Stopped, Leaves};
 
-use crate::actions::play_one;
+use crate::actions::play_action;
 use crate::fault::ReplayFault;
 use crate::indexes::add_indexes;
 use crate::refusals::{check, is_config};
@@ -29,7 +29,7 @@ fn play(alloc: Global, state: &mut State, entry: &Entry) -> Result<(), AllocErro
     match &entry.action {
         Action::Group { entries } => play_all(alloc, state, entries.as_slice()),
         Action::AddIndexes { defs } => add_indexes(alloc, state, &entry.ns, defs.as_slice()),
-        _ => play_one(alloc, state, &entry.ns, &entry.action),
+        _ => play_action(alloc, state, &entry.ns, &entry.action),
     }
 }
 

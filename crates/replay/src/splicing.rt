@@ -1,17 +1,18 @@
 //! Touches that are played in the bytes of a document.
-ghost use Rattle.std.specs.Prelude.{◌≡◌, ◌≤◌, true, IfOk, IfSome, IsNone, IsTrue};
+ghost use Rattle.std.specs.Prelude.{◌≡◌, ◌↔◌, ◌+◌, ◌<◌, ◌≤◌, ◌^◌, Some, true, false, IfOk, IfSome, IsNone, IsSome, IsTrue};
 ghost use Rattle.std.specs.List.{list_all};
 ghost use Rattle.bson_value.specs.Levels.{levels_of};
 ghost use Rattle.bson_value.specs.Spelling.{document_text};
 ghost use Rattle.bson_encode.specs.Key.{key_of};
 ghost use Rattle.bson_view.specs.Kept.{kept_bytes, kept_document};
 ghost use Rattle.bson_view.specs.Views.{document, view_bytes};
-ghost use Rattle.coll_state.specs.Changes.{document_at};
+ghost use Rattle.coll_state.specs.Changes.{document_at, number_at, put};
 ghost use Rattle.coll_state.specs.Kept.{is_short};
+ghost use Rattle.coll_state.specs.Rows.{id_of, key_in};
 ghost use Rattle.spliced_documents.specs.Splicing.{IsShortSpelling};
 ghost use Rattle.replay.specs.Splicing.{AreBuilt, IsThere, IsPlayed, IsPlayedThere, IsPlayedAlone, stays_within};
 
-use crate::fields::{common_field, only_below, only_field, taken_below, taken_field};
+use crate::touched_fields::{common_field, only_below, only_field, taken_below, taken_field};
 use bson_value::{CText, Doc, List, NsName, Value};
 use bson_view::{DocumentBytes, Held, View};
 use coll_state::State;
@@ -31,6 +32,30 @@ pub(crate) fn own_view<'s>(state: &'s State, ns: &NsName, id: &Value) -> Option<
     match state.find(ns, id)? {
         (number, Held::Spelled(view)) => Some((number, view)),
         (_, Held::Built(_)) => None,
+    }
+}
+
+/// Puts the changed document, where there is one, in the place of that under this number, and says whether it did.
+pub(crate) fn replace(
+    state: &mut State,
+    ns: &NsName,
+    number: u128,
+    changed: Option<DocumentBytes>,
+) -> bool
+    requires spelling { IfSome changed (λ b. IsShortSpelling (kept_bytes b) (kept_document b)) }
+    requires number { IfSome changed (λ b. number_at ns.now (key_in (id_of (kept_document b))) state.old.tables ≡ Some number) }
+    requires count { state.old.count < 2 ^ 127 }
+    ensures put { IfSome changed (λ b. state.new ≡ put ns.now (kept_document b) state.old) }
+    ensures done { IsTrue result ↔ IsSome changed }
+    ensures left { result ≡ false → state.new ≡ state.old }
+    ensures count { state.new.count ≤ state.old.count + 1 }
+{
+    match changed {
+        Some(bytes) => {
+            state.replace_spelling(ns, number, bytes);
+            true
+        }
+        None => false,
     }
 }
 

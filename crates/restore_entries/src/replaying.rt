@@ -11,7 +11,7 @@ ghost use Rattle.restore_entries.specs.Documents.{is_of_document};
 
 use coll_state::{COUNT_LIMIT, State};
 use entry_model::{Action, Entry};
-use replay::{ReplayFault, is_config, item_count, play_one, replay};
+use replay::{ReplayFault, is_config, item_count, play_action, replay};
 use std::alloc::{AllocError, Global};
 
 // Replays an entry, where the count of the collections allows it.
@@ -49,7 +49,7 @@ pub fn replay_document(alloc: Global, state: &mut State, entry: &Entry) -> Resul
     if state.count() >= COUNT_LIMIT {
         return Err(AllocError);
     }
-    play_one(alloc, state, &entry.ns, &entry.action)
+    play_action(alloc, state, &entry.ns, &entry.action)
 }
 
 /// Replays entries in their order, up to the first that is refused. The collections are spent where it fails.

@@ -60,9 +60,9 @@ play-returns-in_default t c =
     let is : steps_of e ≡ ms ∷ [] = steps_one e (sym c.is_config.ensures ∙ c.if-is_config.false) c.in_default.not-AddIndexes c.in_default.not-Group in
     let k = count_one e c.in_default.not-Group in
     record {
-      ok = on_ok c.play_one.result (λ m. subst (λ (l : List Step). Made l c.args.state.now c.play_one.new.state) (sym is) (made_one ms c.args.state.now c.play_one.new.state m)) c.play_one.ensures.ok;
-      err = on_err c.play_one.result (λ m. subst (λ (l : List Step). Stopped l c.args.state.now c.play_one.new.state) (sym is) (stopped_one ms c.args.state.now c.play_one.new.state m)) c.play_one.ensures.err;
-      count = omega (arith, k, c.play_one.ensures.count);
+      ok = on_ok c.play_action.result (λ m. subst (λ (l : List Step). Made l c.args.state.now c.play_action.new.state) (sym is) (made_one ms c.args.state.now c.play_action.new.state m)) c.play_action.ensures.ok;
+      err = on_err c.play_action.result (λ m. subst (λ (l : List Step). Stopped l c.args.state.now c.play_action.new.state) (sym is) (stopped_one ms c.args.state.now c.play_action.new.state m)) c.play_action.ensures.err;
+      count = omega (arith, k, c.play_action.ensures.count);
     }
 
 pub play_all-play-requires : goal.play_all-play-requires

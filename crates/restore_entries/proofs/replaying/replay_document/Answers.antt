@@ -14,4 +14,4 @@ returns-then-is_config-clause-ok c =
 pub returns-clause-ok : goal.returns-clause-ok
 returns-clause-ok c =
     let all = moves_are c.args.entry.now c.requires in
-    on_ok c.play_one.result (λ m. m ∙ ap (λ (ms : List Move). replay_all ms (state_of c.args.state.now)) (sym (rw (sym c.is_config.ensures ∙ c.if-is_config.false) at all))) c.play_one.ensures.ok
+    on_ok c.play_action.result (λ m. m ∙ ap (λ (ms : List Move). replay_all ms (state_of c.args.state.now)) (sym (rw (sym c.is_config.ensures ∙ c.if-is_config.false) at all))) c.play_action.ensures.ok

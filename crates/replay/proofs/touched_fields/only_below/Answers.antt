@@ -2,7 +2,7 @@ use Rattle.std.proofs.Common.{arith}
 use Rattle.spliced_documents.specs.Splicing.{IsPutBelow}
 use Rattle.replay.proofs.FieldBelow.{only_changes}
 use Rattle.replay.proofs.OneField.{only_one}
-use Rattle.replay.proofs.fields.only_below.Goals as goal
+use Rattle.replay.proofs.touched_fields.only_below.Goals as goal
 
 pub returns-in-len1 : goal.returns-in-len1
 returns-in-len1 c =

@@ -5,7 +5,7 @@ use Rattle.doc_path.specs.declared.touches.Touch.TheVariants.{Set as Sets}
 use Rattle.doc_path.specs.Played.{touch_of}
 use Rattle.replay.specs.Splicing.{SetsField}
 use Rattle.replay.proofs.OneField.{sets_field}
-use Rattle.replay.proofs.fields.field_of.Goals as goal
+use Rattle.replay.proofs.touched_fields.field_of.Goals as goal
 
 pub returns-in-Some : goal.returns-in-Some
 returns-in-Some c =

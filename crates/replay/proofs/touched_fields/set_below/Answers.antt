@@ -6,7 +6,7 @@ use Rattle.doc_path.specs.Played.{touch_of}
 use Rattle.spliced_documents.specs.Splicing.{IsPutBelow}
 use Rattle.replay.specs.Splicing.{Changes}
 use Rattle.replay.proofs.FieldBelow.{sets_below}
-use Rattle.replay.proofs.fields.set_below.Goals as goal
+use Rattle.replay.proofs.touched_fields.set_below.Goals as goal
 
 pub returns-in-Some : goal.returns-in-Some
 returns-in-Some c =

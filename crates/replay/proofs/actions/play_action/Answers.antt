@@ -7,7 +7,7 @@ use Rattle.entry_model.specs.declared.entry.Entry.{Entry}
 use Rattle.state_model.specs.Replay.{replay_all}
 use Rattle.coll_state.specs.Rows.{state_of}
 use Rattle.replay.specs.Moves.{moves_at}
-use Rattle.replay.proofs.actions.play_one.Goals as goal
+use Rattle.replay.proofs.actions.play_action.Goals as goal
 
 pub returns-in-Whole-clause-ok : goal.returns-in-Whole-clause-ok
 returns-in-Whole-clause-ok c =

@@ -14,9 +14,9 @@ ghost use Rattle.spliced_documents.specs.Splicing.{IsShortSpelling};
 ghost use Rattle.state_model.specs.Replay.{replay_all};
 ghost use Rattle.coll_state.specs.Rows.{state_of};
 ghost use Rattle.replay.specs.Moves.{deltas};
-ghost use Rattle.replay.specs.Splicing.{FitsThere, FitsWith, IsChanged, IsWith, SaysAt};
+ghost use Rattle.replay.specs.Splicing.{FitsThere, FitsWith, IsWith, SaysAt};
 
-use crate::splicing::own_view;
+use crate::splicing::{own_view, replace};
 use bson_value::{NsName, Value};
 use bson_view::{DocumentBytes, Elem, View};
 use coll_state::State;
@@ -48,29 +48,6 @@ fn changed(
     }
 }
 
-/// The number of the document of this `_id`, and the document changed like this, where it is kept as its
-/// spelling.
-fn changed_own(
-    alloc: Global,
-    state: &State,
-    ns: &NsName,
-    id: &Value,
-    name: &str,
-    value: Option<&Elem<'_>>,
-) -> Result<Option<(u128, DocumentBytes)>, AllocError>
-    ensures changed { IfOk result (λ o. IfSome o (λ p. IsChanged ns.now id.now (IsWith name.now (option_map (λ e. elem_value e.now) value.entry)) state.now p.0 (kept_document p.1))) }
-    ensures fits { IfOk result (λ o. IsSome o ↔ FitsThere ns.now id.now (FitsWith name.now (option_map (λ e. elem_value e.now) value.entry)) state.now) }
-    ensures spelling { IfOk result (λ o. IfSome o (λ p. IsShortSpelling (kept_bytes p.1) (kept_document p.1))) }
-{
-    let Some((number, view)) = own_view(state, ns, id) else {
-        return Ok(None);
-    };
-    match changed(alloc, &view, name, value)? {
-        Some(bytes) => Ok(Some((number, bytes))),
-        None => Ok(None),
-    }
-}
-
 /// Sets a field of a document to the value of an element, or takes it out where no element is given. Nothing
 /// is built: the document's bytes are copied, and the element's. `false` exactly where nothing was done: the
 /// document isn't there or isn't kept as its spelling, the field is `_id`, the value holds others or its name
@@ -93,11 +70,9 @@ pub fn splice_field(
     if is_id(name) {
         return Ok(false);
     }
-    match changed_own(alloc, state, ns, id, name, value)? {
-        Some((number, bytes)) => {
-            state.replace_spelling(ns, number, bytes);
-            Ok(true)
-        }
-        None => Ok(false),
-    }
+    let Some((number, view)) = own_view(state, ns, id) else {
+        return Ok(false);
+    };
+    let changed = changed(alloc, &view, name, value)?;
+    Ok(replace(state, ns, number, changed))
 }

@@ -1,6 +1,6 @@
 use Rattle.std.proofs.Common.{arith}
 use Rattle.replay.proofs.OneField.{only_one, only_sets}
-use Rattle.replay.proofs.fields.only_field.Goals as goal
+use Rattle.replay.proofs.touched_fields.only_field.Goals as goal
 
 pub returns-in-len1 : goal.returns-in-len1
 returns-in-len1 c =

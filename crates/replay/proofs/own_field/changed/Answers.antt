@@ -4,7 +4,7 @@ use Rattle.bson_view.specs.declared.elem.Elem.{Elem}
 use Rattle.bson_view.specs.Views.{document, elem_value}
 use Rattle.spliced_documents.specs.Splicing.{FitsLeaf}
 use Rattle.replay.specs.Splicing.{FitsWith}
-use Rattle.replay.proofs.field.changed.Goals as goal
+use Rattle.replay.proofs.own_field.changed.Goals as goal
 
 pub returns-in-Some-clause-fits : goal.returns-in-Some-clause-fits
 returns-in-Some-clause-fits c =
