@@ -26,7 +26,7 @@ use store_log::next_ts;
 use stored_documents::{id_first_is_alike, stored_documents_are_good};
 
 impl Store {
-    /// Whether a document may be inserted, which is as it is kept.
+    // Whether a document may be inserted. It is given as the command has it, and as it is kept.
     fn may_insert(&self, ns: &NsName, doc: &Doc, first: &Doc) -> Result<(), StoreFault>
         requires { first.now ≡ id_first doc.now }
         ensures decided { Decided (Command.Document (DocumentCommand.Insert ns.now doc.now)) self.now (λ _. insert_effects (is_there ns.now self.now.rows) ns.now first.now) result }
@@ -79,7 +79,7 @@ impl Store {
         Ok(2)
     }
 
-    // Inserts a document, which is as it is kept.
+    // Inserts a document that is given as the command has it, and as it is kept.
     fn insert_kept(&mut self, ns: &NsName, doc: &Doc, first: &Doc) -> Result<u32, StoreFault>
         requires few { self.old.log.recorded < 4000000000 }
         requires first { first.now ≡ id_first doc.now }

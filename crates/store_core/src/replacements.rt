@@ -34,7 +34,7 @@ fn id_of(alloc: Global, doc: &Doc) -> Result<Value, AllocError>
 }
 
 impl Store {
-    // The document whose place one takes that isn't refused, and is given as it is kept.
+    // The document whose place another takes that isn't refused. The other is given as the command has it, and as it is kept.
     fn replaced(&self, ns: &NsName, doc: &Doc, first: &Doc) -> Result<Doc, StoreFault>
         requires { first.now ≡ id_first doc.now }
         ensures decided { IsAccepted (DocumentCommand.Replace ns.now doc.now) self.now (λ old. Replaces ns.now doc.now self.now.rows old first.now) result }
@@ -53,7 +53,7 @@ impl Store {
         }
     }
 
-    // Whether a document that may take the place of the one with its `_id` changes it. It is given as it is kept.
+    // Whether a replacement that may be made changes the document.
     fn changes(&self, ns: &NsName, doc: &Doc, first: &Doc) -> Result<bool, StoreFault>
         requires { first.now ≡ id_first doc.now }
         ensures decided { Decided (Command.Document (DocumentCommand.Replace ns.now doc.now)) self.now (λ b. replace_effects ns.now (if b then Some first.now else None)) result }
@@ -89,7 +89,7 @@ impl Store {
         Ok(1)
     }
 
-    // Replaces a document by one that is given as it is kept.
+    // Replaces a document by one that is given as the command has it, and as it is kept.
     fn replace_by(&mut self, ns: &NsName, doc: &Doc, first: &Doc) -> Result<u32, StoreFault>
         requires few { self.old.log.recorded < 4000000000 }
         requires first { first.now ≡ id_first doc.now }
