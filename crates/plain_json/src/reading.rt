@@ -13,6 +13,9 @@ use std::alloc::{AllocError, Global};
 // So many members an object has at most, since a name is looked for among all before it.
 const MEMBERS: usize = 64;
 
+// Room for so many values is made first: most arrays and objects within a document have one, and a schedule may hold many.
+const FEW: usize = 1;
+
 // As many levels as a JSON text has at most.
 const LEVELS: usize = 256;
 
@@ -120,7 +123,7 @@ fn items(alloc: Global, levels: usize, bytes: &[u8]) -> Result<(List<Value>, &[u
     ensures read { IfOk result (λ x. AreItemsRead levels bytes.now x.0 x.1.now) }
     ensures fits { IfOk result (λ x. length x.1.now ≤ length bytes.now) }
 {
-    let mut items = List::new(alloc);
+    let mut items = List::with_capacity(alloc, FEW)?;
     if let Some(after) = closed(b']', bytes) {
         return Ok((items, after));
     }
@@ -188,7 +191,8 @@ fn members(alloc: Global, levels: usize, bytes: &[u8]) -> Result<(Doc, &[u8]), R
     ensures read { IfOk result (λ x. AreMembersRead levels bytes.now x.0 x.1.now) }
     ensures fits { IfOk result (λ x. length x.1.now ≤ length bytes.now) }
 {
-    let mut doc = Doc::new(alloc);
+    let fields = Vec::with_capacity(alloc, FEW)?;
+    let mut doc = Doc::of_distinct(fields);
     if let Some(after) = closed(b'}', bytes) {
         return Ok((doc, after));
     }

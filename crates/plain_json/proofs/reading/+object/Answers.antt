@@ -1,4 +1,4 @@
-use Rattle.std.proofs.Common.{sym, arith}
+use Rattle.std.proofs.Common.{sym, arith, ◌∙◌}
 use Rattle.plain_json.proofs.Values.{on_ok, on_ends, array_value, object_value, array_read, object_read}
 use Rattle.plain_json.proofs.Items.{item_put, items_start, items_shut, items_on, items_end}
 use Rattle.plain_json.proofs.Members.{member_put, members_start, members_shut, members_on, members_end}
@@ -15,10 +15,10 @@ item-returns-clause-read t c =
     on_ends c.more.result (λ x h. item_put c.args.levels c.args.items.now _ c.args.bytes.now c.in_ok-value.rest.now x.1.now _ x.0 c.in_ok-push.ensures.ok c.in_ok-value.ensures.read (λ end. rw c.space.ensures.value at (h end))) c.more.ensures.gives
 
 pub items-returns-in-Some-clause-read : goal.items-returns-in-Some-clause-read
-items-returns-in-Some-clause-read t c = rw c.new-items.ensures (items_shut c.args.levels c.args.bytes.now c.in-Some.after.now (sym c.in-Some.ensures.value))
+items-returns-in-Some-clause-read t c = rw c.in_ok-items.ensures (items_shut c.args.levels c.args.bytes.now c.in-Some.after.now (sym c.in-Some.ensures.value))
 
 pub items-items-init : goal.items-items-init
-items-items-init t c = record { left = rw c.new-items.ensures (items_start c.args.levels c.args.bytes.now (sym c.in_default.ensures.value)); fits = omega arith }
+items-items-init t c = record { left = rw c.in_ok-items.ensures (items_start c.args.levels c.args.bytes.now (sym c.in_default.ensures.value)); fits = omega arith }
 
 pub items-returns-then-not-more-clause-read : goal.items-returns-then-not-more-clause-read
 items-returns-then-not-more-clause-read t c =
@@ -42,10 +42,10 @@ member-returns-clause-read t c =
     (λ end. rw c.space.ensures.value at (c.in_ok-rest.ensures.gives end)) c.in_ok-value.ensures.read (λ end. rw c.space-2.ensures.value at (h end))) c.more.ensures.gives
 
 pub members-returns-in-Some-clause-read : goal.members-returns-in-Some-clause-read
-members-returns-in-Some-clause-read t c = rw c.new-doc.ensures (members_shut c.args.levels c.args.bytes.now c.in-Some.after.now (sym c.in-Some.ensures.value))
+members-returns-in-Some-clause-read t c = rw (c.of_distinct-doc.ensures ∙ c.in_ok-fields.ensures.items) (members_shut c.args.levels c.args.bytes.now c.in-Some.after.now (sym c.in-Some.ensures.value))
 
 pub members-members-init : goal.members-members-init
-members-members-init t c = record { left = rw c.new-doc.ensures (members_start c.args.levels c.args.bytes.now (sym c.in_default.ensures.value)); fits = omega arith }
+members-members-init t c = record { left = rw (c.of_distinct-doc.ensures ∙ c.in_ok-fields.ensures.items) (members_start c.args.levels c.args.bytes.now (sym c.in_default.ensures.value)); fits = omega arith }
 
 pub members-returns-then-not-more-clause-read : goal.members-returns-then-not-more-clause-read
 members-returns-then-not-more-clause-read t c =
