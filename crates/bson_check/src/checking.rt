@@ -1,7 +1,7 @@
 //! Checking a document without taking memory.
-ghost use Rattle.std.specs.Prelude.{◌≡◌, ◌<◌, ◌≤◌, ◌↔◌, [], length, IfOk, IsOk, drop};
+ghost use Rattle.std.specs.Prelude.{◌≡◌, ◌+◌, ◌<◌, ◌≤◌, ◌↔◌, [], length, IfOk, IsOk, drop};
 ghost use Rattle.std.specs.Result.{result_err};
-ghost use Rattle.bson_check.specs.Reading.{Reads, rests, void, run_at, int_at, item_at, fields_at, items_at, value_at, document_at, array_at, scoped_at, document_of};
+ghost use Rattle.bson_check.specs.Reading.{Reads, rests, void, run_at, int_at, text_at, item_at, fields_at, items_at, value_at, document_at, array_at, scoped_at, document_of};
 ghost use Rattle.bson_check.specs.Spells.{IsSomeDocument};
 ghost use Rattle.bson_check.specs.Faults.{first_fault};
 ghost use Rattle.bson_check.specs.Passing.{count_of, jump};
@@ -28,6 +28,18 @@ fn skip(n: usize, end: usize, bytes: &[u8]) -> Result<&[u8], BsonFault>
         return Err(fault(BsonKind::Length, end - bytes.len()));
     }
     Ok(&bytes[n..])
+}
+
+// Skips a string.
+#[inline(always)]
+fn string(end: usize, bytes: &[u8]) -> Result<&[u8], BsonFault>
+    requires { length bytes.now ≤ end }
+    ensures skips { Reads (λ r. r.now) result (rests (text_at end bytes.now)) }
+    ensures fits { IfOk result (λ r. length r.now ≤ length bytes.now) }
+    ensures jumps { IfOk result (λ r. r.now ≡ drop (count_of bytes.now + 4) bytes.now) }
+{
+    let (_, rest) = text(end, bytes)?;
+    Ok(rest)
 }
 
 #[tactic(auto, unfolding(crate::specs::Reading::value_with, crate::specs::Passing::jump))]
@@ -119,6 +131,7 @@ fn value(levels: usize, tag: u8, end: usize, bytes: &[u8]) -> Result<&[u8], Bson
 {
     match tag {
         1 | 9 | 17 | 18 => skip(8, end, bytes),
+        2 => string(end, bytes),
         3 => document(levels, end, bytes),
         7 => skip(12, end, bytes),
         16 => skip(4, end, bytes),

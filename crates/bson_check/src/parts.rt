@@ -143,6 +143,7 @@ pub fn as_text(bytes: &[u8]) -> Option<&str>
 
 /// A string: its length with the final zero in four bytes, its text in UTF-8, a zero.
 #[tactic(auto, unfolding(crate::specs::Reading::text_at, crate::specs::Passing::count_of))]
+#[inline(always)]
 pub fn text(end: usize, bytes: &[u8]) -> Result<(&str, &[u8]), BsonFault>
     requires { length bytes.now ≤ end }
     ensures gives { Reads (λ x. (x.0.now, x.1.now)) result (text_at end bytes.now) }
