@@ -8,10 +8,10 @@ ghost use Rattle.coll_state.specs.Rows.{state_of};
 ghost use Rattle.index_build.specs.Numbers.{counts as counts_of};
 ghost use Rattle.state_listing.specs.Listing.{listing};
 ghost use Rattle.history_model.specs.Runs.{Done};
-ghost use Rattle.history_model.specs.Histories.{before, outcome};
+ghost use Rattle.history_model.specs.Histories.{outcome};
 ghost use Rattle.dump_model.specs.Archives.{written};
 ghost use Rattle.schedule_report.specs.Schedules.{schedule_in};
-ghost use Rattle.schedule_dump.specs.Outcomes.{IsReport};
+ghost use Rattle.schedule_dump.specs.Outcomes.{IsReport, IsSource};
 ghost use Rattle.restore_plan.specs.Outcome.{restores, IsOutcome};
 ghost use Rattle.drill_schedule.specs.Drills.{drill};
 ghost use Rattle.drill_run.specs.Drills.{drill_line};
@@ -29,7 +29,6 @@ use index_build::Counts as KeyCounts;
 use restore_filter::Filter;
 use restore_plan::{ArchiveFault, Plan, one_outcome, refused_is_outcome, restore_archive};
 use schedule_dump::{RunFault, dump};
-use schedule_source::source;
 use schedule_text::{LineFault, Schedule};
 use state_listing::list;
 use std::alloc::{AllocError, Global};
@@ -52,16 +51,30 @@ fn read_drill(alloc: Global, n: u32) -> Result<Schedule, AllocError>
     }
 }
 
-// The archive of a dump that is done, and what the dump reports.
-fn dump_into_memory(alloc: Global, schedule: Schedule) -> Result<(DumpReport, Buffer), AllocError>
+// A dump that is done.
+#[derive(Drop)]
+struct DoneDump {
+    report: DumpReport,
+    archive: Buffer,
+    // The store as all lines of the schedule left it.
+    store: Store,
+}
+
+fn dump_into_memory(alloc: Global, schedule: Schedule) -> Result<DoneDump, AllocError>
     requires least { 1 ≤ schedule.cap }
     requires most { schedule.cap ≤ 1000000 }
     requires done { outcome (schedule_in schedule) ≡ Done }
-    ensures { IfOk result (λ r. IsReport r.0 (schedule_in schedule) × (r.1 ≡ written (schedule_in schedule))) }
+    ensures report { IfOk result (λ d. IsReport d.report (schedule_in schedule)) }
+    ensures archive { IfOk result (λ d. d.archive ≡ written (schedule_in schedule)) }
+    ensures store { IfOk result (λ d. IsSource d.store (schedule_in schedule)) }
 {
     let mut archive = Buffer::new(alloc);
     match dump(alloc, schedule, &mut archive, &mut Discard) {
-        Ok(report) => Ok((report, archive)),
+        Ok((report, store)) => Ok(DoneDump {
+            report,
+            archive,
+            store,
+        }),
         Err(RunFault::NoMemory) => Err(AllocError),
         Err(RunFault::Renamed { .. }) => unreachable!(),
         Err(RunFault::Rolled { .. }) => unreachable!(),
@@ -113,20 +126,7 @@ fn list_restored(alloc: Global, archive: &[u8]) -> Result<Buffer, AllocError>
     }
 }
 
-// The store that the commands of a schedule make.
-fn run_source(alloc: Global, schedule: Schedule) -> Result<Store, AllocError>
-    requires least { 1 ≤ schedule.cap }
-    requires most { schedule.cap ≤ 1000000 }
-    ensures { IfOk result (λ store. state_of store.rows ≡ before (schedule_in schedule) None) }
-{
-    match source(alloc, schedule, None, &mut Discard) {
-        Ok(store) => Ok(store),
-        Err(Fault::NoMemory) => Err(AllocError),
-        Err(Fault::Failed) => unreachable!(),
-    }
-}
-
-// Its listing.
+// The listing of a store.
 fn list_store_into_memory(alloc: Global, store: &Store) -> Result<Buffer, AllocError>
     ensures { IfOk result (λ text. text ≡ listing Hex (state_of store.now.rows)) }
 {
@@ -160,10 +160,11 @@ fn drill_line(alloc: Global, n: u32) -> Result<String, AllocError>
     drills_heal();
     let schedule = read_drill(alloc, n)?;
     let lines = schedule.lines.len() + 1;
-    let (report, archive) = dump_into_memory(alloc, schedule)?;
-    let restored = list_restored(alloc, archive.as_slice())?;
-    let again = read_drill(alloc, n)?;
-    let store = run_source(alloc, again)?;
+    let DoneDump {
+        report,
+        archive,
+        store,
+    } = dump_into_memory(alloc, schedule)?;
     let listed = list_store_into_memory(alloc, &store)?;
     let counts = Counts {
         lines,
@@ -172,12 +173,14 @@ fn drill_line(alloc: Global, n: u32) -> Result<String, AllocError>
         namespaces: namespaces(store.state()),
         bytes: archive.as_slice().len(),
     };
+    drop(store);
+    let restored = list_restored(alloc, archive.as_slice())?;
     counts_line(alloc, counts, equal(restored.as_slice(), listed.as_slice()))
 }
 
 /// Writes the line of the drill of `n`: its text is dumped in memory, the archive restored with replay, and the listing of that is
-/// compared with that of the source. Nothing is written before all is done. It takes memory for the lines that are still
-/// to be run, the store, the restored state, the archive and both listings. The schedule is made twice.
+/// compared with that of the store that was dumped, as all lines left it. Nothing is written before all is done. It takes
+/// memory for the lines that are still to be run, the store or the restored state, the archive and both listings.
 pub fn drill<K: Sink>(alloc: Global, n: u32, output: &mut K) -> Result<(), Fault>
     requires least { 1 ≤ n }
     requires most { n ≤ 100000 }

@@ -1,5 +1,6 @@
 -- What a dump comes to, at its start and at its end.
 use Rattle.std.proofs.Common.{◌≡◌, ℕ, ◌+◌, List, [], ◌∷◌, length, refl, sym, ap, ◌∙◌, subst, append-nil, Option, Some, Result, Ok, Err}
+use Rattle.std.specs.Prelude.{filter, true}
 use Rattle.std.specs.Io.KnownBytes.{Appends}
 use Rattle.std.proofs.lemmas.List.{length-append}
 use Rattle.tool_io.specs.Causes.{AppendsFront}
@@ -8,10 +9,12 @@ use Rattle.tool_io.specs.declared.ends.Fault.{Fault}
 use Rattle.tool_io.specs.declared.ends.Fault.TheVariants as ends_faults
 use Rattle.tool_io.proofs.Writes.{front_none}
 use Rattle.bson_value.specs.declared.value.Ts.{Ts}
+use Rattle.coll_state.specs.Rows.{state_of}
+use Rattle.history_model.specs.Stages.{Made}
 use Rattle.history_model.specs.WellFormed.{AreWellFormedLines}
 use Rattle.history_model.specs.Laws.{DoneIsHealedBefore}
 use Rattle.history_model.specs.Runs.{Schedule, Run, Step, Documents, Entries, DumpState, Done, Refusal, finished, run, window, entries_from}
-use Rattle.history_model.specs.Histories.{Moments, moments_of, moments, reads, outcome, refusals, refusals_told, documents_in, entries_in, sent_in}
+use Rattle.history_model.specs.Histories.{Moments, history, history_of, state, moments_of, moments, reads, outcome, refusals, refusals_told, documents_in, entries_in, sent_in}
 use Rattle.dump_model.specs.Archives.{written}
 use Rattle.store_core.specs.Stores.{Stored}
 use Rattle.dump_run.specs.declared.fault.DumpFault.{DumpFault}
@@ -26,11 +29,12 @@ use Rattle.schedule_dump.specs.declared.fault.RunFault.{RunFault}
 use Rattle.schedule_dump.specs.declared.fault.RunFault.TheVariants as faults
 use Rattle.schedule_dump.specs.Lines.{IsOfReport, fault_of}
 use Rattle.schedule_dump.specs.Progress.{Breaks, Ends, ends, DuringDump}
-use Rattle.schedule_dump.specs.Outcomes.{TellsFirst, WritesAll, Fails, Dumps}
+use Rattle.schedule_dump.specs.Outcomes.{TellsFirst, WritesAll, Fails, Dumps, IsSource}
 use Rattle.schedule_dump.proofs.Refused.{finished_leaves}
 use Rattle.schedule_dump.proofs.Reaching.{told_first, first_front}
 use Rattle.schedule_dump.proofs.Going.{written_front, written_all}
 use Rattle.history_model.proofs.Answered.{same_some as some_is}
+use Rattle.history_model.proofs.SourceMade.{finished_made}
 
 -- ---- before the start
 
@@ -47,8 +51,8 @@ breaks s (faults.Renamed ts) output before after b = absurd b.0
 breaks s (faults.Rolled start oldest) output before after b = absurd b.0
 
 -- it isn't the output that failed then
-pub never_output : (f : RunFault) (r : Result DumpReport RunFault) → IsOfReport f → r ≡ Err f → r ≡ Err faults.OutputFault → ⊥
-never_output f r h is e = (let same : f ≡ faults.OutputFault = cc in subst IsOfReport same h)
+pub never_output : {A : Type 0} (f : RunFault) (r : Result A RunFault) → IsOfReport f → r ≡ Err f → r ≡ Err faults.OutputFault → ⊥
+never_output {A} f r h is e = (let same : f ≡ faults.OutputFault = cc in subst IsOfReport same h)
 
 -- the dump didn't start
 pub start_fails : (s : Schedule) (f : DumpFault) (a b c d : Option (List ℕ)) → IsOfSink f → AppendsFront a b (written s) → TellsFirst s c d → Fails (fault_of f) s (record { output = a; report = c }) (record { output = b; report = d })
@@ -59,6 +63,10 @@ start_fails s f a b c d is w t = subst (λ (z : DumpFault). Fails (fault_of z) s
     by ends_faults.Failed = (w, t)
 
 -- ---- the end
+
+all_stay : {A : Type 0} (xs : List A) → filter (λ (x : A). true) xs ≡ xs
+all_stay [] = refl
+all_stay (x ∷ xs) = ap (λ (ys : List _). x ∷ ys) (all_stay xs)
 
 moments_in : (o : Option DumpState) (d : DumpState) (e : Ts) → o ≡ Some d → Some e ≡ d.mark → moments_of o ≡ record { start = Some d.start; last_read = Some d.last_read; end_ts = Some e }
 moments_in o d e is mark = ap moments_of is ∙ ap (λ (z : Option Ts). record { start = Some d.start; last_read = Some d.last_read; end_ts = z }) (sym mark)
@@ -89,6 +97,12 @@ module _ (s : Schedule) (store : Stored) (dump : Dumping) (first : Ends) (o q : 
 
   told : TellsFirst s first.report q.bytes
   told = told_first s store g.at [] first.report q.bytes g.reached
+
+  -- what is left of a dump makes no change
+  pub is_source : IsSource store s
+  is_source =
+      ap state_of g.reached.stands.rows ∙ ((g.reached.good [] [] refl).0.state
+      ∙ (ap (λ (ms : List Made). state (history_of ms)) (sym (ap (λ (z : Run). z.made) whole ∙ finished_made g.at)) ∙ ap state (sym (all_stay (history s)))))
 
   pub finish_fails : (f : DumpFault) (new : Dumping) (p : End) → Finishes (Err f) g.at (finished g.at) new o p → Fails (fault_of f) s first (ends p q)
   finish_fails (steps.Renamed ts) new p h = (ap (λ (z : Run). z.outcome) whole ∙ h.0, all p h.1)

@@ -1,10 +1,11 @@
 -- What the run of a schedule with a dump comes to.
-use Rattle.std.specs.Prelude.{ℕ, ◌≡◌, List, ◌++◌, length, Option, Some, Result, Ok, Err}
+use Rattle.std.specs.Prelude.{ℕ, ◌≡◌, List, ◌++◌, length, Option, Some, None, Result, Ok, Err}
 use Rattle.std.specs.Io.KnownBytes.{Appends}
 use Rattle.tool_io.specs.Causes.{AppendsFront}
 use Rattle.schedule_model.specs.declared.line.Line.{Line}
+use Rattle.coll_state.specs.Rows.{state_of}
 use Rattle.history_model.specs.Runs.{Schedule, Refusal, Done, Renamed, Rolled, run, window, entries_from}
-use Rattle.history_model.specs.Histories.{moments, outcome, reads, documents_in, refusals, refusals_told}
+use Rattle.history_model.specs.Histories.{before as state_before, moments, outcome, reads, documents_in, refusals, refusals_told}
 use Rattle.dump_model.specs.Archives.{written}
 use Rattle.dump_run.specs.declared.fault.DumpReport.{DumpReport}
 use Rattle.dump_run.specs.Dumps.{Dumping, counted}
@@ -50,6 +51,10 @@ abbrev pub RunsOn : Result (Unit {0}) RunFault → Schedule → Stored → Dumpi
 RunsOn (Ok u) s store dump rest before after = DuringDump s store dump rest before after
 RunsOn (Err fault) s store dump rest before after = Fails fault s before after
 
-abbrev pub RunOutcome : Result DumpReport RunFault → Schedule → Ends → Ends → Type 0
-RunOutcome (Ok report) s before after = Dumps report s before after
+-- the store has what all commands of the schedule made
+abbrev pub IsSource : Stored → Schedule → Type 0
+IsSource store s = state_of store.rows ≡ state_before s None
+
+abbrev pub RunOutcome : Result (DumpReport × Stored) RunFault → Schedule → Ends → Ends → Type 0
+RunOutcome (Ok (report, store)) s before after = Dumps report s before after × IsSource store s
 RunOutcome (Err fault) s before after = Fails fault s before after

@@ -18,14 +18,14 @@ use std::alloc::Global;
 use store_core::Store;
 use tool_io::Sink;
 
-// Starts the dump, runs these lines beside it, and does what is left of it.
+// Starts the dump, runs these lines beside it, and does what is left of it. It gives the store back.
 fn dump_beside<K: Sink, R: Sink>(
     alloc: Global,
     mut store: Store,
     lines: LineQueue,
     output: &mut K,
     report: &mut R,
-) -> Result<DumpReport, RunFault>
+) -> Result<(DumpReport, Store), RunFault>
     ensures comes { (s : Model) → (first : Option (List ℕ)) → AreWellFormedLines s.lines → AtStart s store (each numbered lines) first (R.end report.old).bytes → RunOutcome result s (record { output = (K.end output.old).bytes; report = first }) (ends (K.end output.new) (R.end report.new)) }
     ensures written { (K.end output.old).faults ≤ (K.end output.new).faults }
     ensures told { (R.end report.old).faults ≤ (R.end report.new).faults }
@@ -42,20 +42,21 @@ fn dump_beside<K: Sink, R: Sink>(
         Err(fault) => return Err(fault),
     }
     match dump.finish(&store, output) {
-        Ok(report) => Ok(report),
+        Ok(report) => Ok((report, store)),
         Err(fault) => Err(fault_of(fault)),
     }
 }
 
 /// Runs the lines of a schedule, and writes the archive of the dump that it makes. The dump starts with the first line `dump`, or
 /// behind the last line where there is none; behind the last line what is left of it is done. Each line that is refused is told
-/// at once, and each line is dropped when it was run. A step of the dump that fails ends the run.
+/// at once, and each line is dropped when it was run. A step of the dump that fails ends the run. It gives what the dump
+/// reports, and the store as all lines left it.
 pub fn dump<K: Sink, R: Sink>(
     alloc: Global,
     schedule: Schedule,
     output: &mut K,
     report: &mut R,
-) -> Result<DumpReport, RunFault>
+) -> Result<(DumpReport, Store), RunFault>
     requires least { 1 ≤ schedule.cap }
     requires most { schedule.cap ≤ 1000000 }
     ensures comes { RunOutcome result (schedule_in schedule) (ends (K.end output.old) (R.end report.old)) (ends (K.end output.new) (R.end report.new)) }

@@ -25,11 +25,14 @@ fn dump_schedule<K: Sink, R: Sink>(
         (turn (R.end report.old) (R.end report.new)) }
 {
     match dump(alloc, schedule, output, report) {
-        Ok(came) => match write_report(alloc, came, report) {
-            Ok(()) => Status::Done,
-            Err(Fault::Failed) => Status::WriteFault,
-            Err(Fault::NoMemory) => Status::NoMemory,
-        },
+        Ok((came, store)) => {
+            drop(store);
+            match write_report(alloc, came, report) {
+                Ok(()) => Status::Done,
+                Err(Fault::Failed) => Status::WriteFault,
+                Err(Fault::NoMemory) => Status::NoMemory,
+            }
+        }
         Err(RunFault::Renamed { ts }) => Status::Renamed { ts },
         Err(RunFault::Rolled { start, oldest }) => Status::Rolled { start, oldest },
         Err(RunFault::OutputFault) => Status::WriteFault,

@@ -1,10 +1,6 @@
-use Rattle.std.proofs.Common.{◌≡◌, ℕ, ◌+◌, length, refl, sym, ap, ◌∙◌, None}
+use Rattle.std.proofs.Common.{◌≡◌, ℕ, ◌+◌, length, refl, sym, ap, ◌∙◌}
 use Rattle.std.specs.FinMap as map
-use Rattle.coll_state.specs.Rows.{Rows, state_of}
-use Rattle.history_model.specs.Histories.{before}
-use Rattle.schedule_text.specs.declared.schedule.Schedule.{Schedule}
-use Rattle.schedule_report.specs.Schedules.{schedule_in}
-use Rattle.drill_schedule.specs.Drills.{drill}
+use Rattle.coll_state.specs.Rows.{Rows}
 use Rattle.drill_run.specs.declared.line.Counts.{Counts}
 use Rattle.drill_run.proofs.Reported.{least, most, restorable, same_listings, counts_are, told_line}
 use Rattle.drill_run.proofs.run.drill_line.Goals as goal
@@ -15,32 +11,22 @@ dump_into_memory-requires-clause-least c = least c.args.n c.in_ok-schedule.sched
 pub dump_into_memory-requires-clause-most : goal.dump_into_memory-requires-clause-most
 dump_into_memory-requires-clause-most c = most c.args.n c.in_ok-schedule.schedule c.in_ok-schedule.ensures
 
-pub run_source-requires-clause-least : goal.run_source-requires-clause-least
-run_source-requires-clause-least c = least c.args.n c.in_ok-again.again c.in_ok-again.ensures
-
-pub run_source-requires-clause-most : goal.run_source-requires-clause-most
-run_source-requires-clause-most c = most c.args.n c.in_ok-again.again c.in_ok-again.ensures
-
--- the text of a drill is always read as the same schedule
-same_source : (n : ℕ) (s again : Schedule) (rows : Rows) → s ≡ drill n → again ≡ drill n → state_of rows ≡ before (schedule_in again) None → state_of rows ≡ before (schedule_in s) None
-same_source n s again rows e f g = g ∙ ap (λ (x : Schedule). before (schedule_in x) None) (f ∙ sym e)
-
 pub list_restored-requires : goal.list_restored-requires
 list_restored-requires c =
-    restorable c.args.n c.in_ok-schedule.schedule c.in_ok-schedule.ensures c.as_slice.result.now c.in_ok-report.archive c.as_slice.ensures c.in_ok-report.ensures.1 (c.drills_heal.ensures c.args.n c.requires.least c.requires.most)
+    restorable c.args.n c.in_ok-schedule.schedule c.in_ok-schedule.ensures c.as_slice-2.result.now c.in_ok-report.field-0.archive c.as_slice-2.ensures c.in_ok-report.ensures.archive (c.drills_heal.ensures c.args.n c.requires.least c.requires.most)
 
 pub equal-requires : goal.equal-requires
 equal-requires c =
     let same =
-    same_listings c.args.n c.in_ok-schedule.schedule c.in_ok-schedule.ensures c.as_slice.result.now c.in_ok-report.archive c.in_ok-restored.restored c.in_ok-listed.listed c.in_ok-store.store.rows
-    c.as_slice.ensures c.in_ok-report.ensures.1 (c.drills_heal.ensures c.args.n c.requires.least c.requires.most) c.in_ok-restored.ensures c.in_ok-listed.ensures (same_source c.args.n c.in_ok-schedule.schedule c.in_ok-again.again c.in_ok-store.store.rows c.in_ok-schedule.ensures c.in_ok-again.ensures c.in_ok-store.ensures) in
+    same_listings c.args.n c.in_ok-schedule.schedule c.in_ok-schedule.ensures c.as_slice-2.result.now c.in_ok-report.field-0.archive c.in_ok-restored.restored c.in_ok-listed.listed c.in_ok-report.field-0.store.rows
+    c.as_slice-2.ensures c.in_ok-report.ensures.archive (c.drills_heal.ensures c.args.n c.requires.least c.requires.most) c.in_ok-restored.ensures c.in_ok-listed.ensures c.in_ok-report.ensures.store in
     c.as_slice-3.ensures ∙ (same ∙ sym c.as_slice-4.ensures)
 
 pub returns : goal.returns
 returns c =
-    let rows = c.in_ok-store.store.rows in
-    let counts : Counts = record { lines = c.len-lines.result + 1; documents = c.in_ok-report.report.documents; entries = c.in_ok-report.report.entries; namespaces = c.namespaces.result; bytes = length c.as_slice-2.result.now } in
+    let rows = c.in_ok-report.field-0.store.rows in
+    let counts : Counts = record { lines = c.len-lines.result + 1; documents = c.in_ok-report.field-0.report.documents; entries = c.in_ok-report.field-0.report.entries; namespaces = c.namespaces.result; bytes = length c.as_slice.result.now } in
     let are =
-    counts_are c.args.n c.in_ok-schedule.schedule c.in_ok-schedule.ensures counts c.in_ok-report.report rows c.in_ok-report.archive c.in_ok-report.ensures.0
-    (ap (λ (z : ℕ). z + 1) c.len-lines.ensures) refl refl (c.namespaces.ensures ∙ ap (λ (r : Rows). length (map.keys r.tables)) c.state.ensures) (ap length c.as_slice-2.ensures) c.in_ok-report.ensures.1 (same_source c.args.n c.in_ok-schedule.schedule c.in_ok-again.again c.in_ok-store.store.rows c.in_ok-schedule.ensures c.in_ok-again.ensures c.in_ok-store.ensures) in
+    counts_are c.args.n c.in_ok-schedule.schedule c.in_ok-schedule.ensures counts c.in_ok-report.field-0.report rows c.in_ok-report.field-0.archive c.in_ok-report.ensures.report
+    (ap (λ (z : ℕ). z + 1) c.len-lines.ensures) refl refl (c.namespaces.ensures ∙ ap (λ (r : Rows). length (map.keys r.tables)) c.state.ensures) (ap length c.as_slice.ensures) c.in_ok-report.ensures.archive c.in_ok-report.ensures.store in
     told_line c.args.n counts c.equal.result.now c.counts_line.result are c.equal.ensures c.counts_line.ensures

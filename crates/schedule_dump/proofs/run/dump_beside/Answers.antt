@@ -1,10 +1,10 @@
 use Rattle.std.proofs.Common.{[], sym, subst, refl, map as each}
 use Rattle.schedule_report.specs.Schedules.{numbered}
 use Rattle.schedule_dump.specs.declared.fault.RunFault.{RunFault}
-use Rattle.schedule_dump.specs.Progress.{ends}
+use Rattle.schedule_dump.specs.Progress.{Ends, ends}
 use Rattle.schedule_dump.specs.Outcomes.{Fails}
 use Rattle.schedule_dump.proofs.Going.{goes_first, start_front, start_told}
-use Rattle.schedule_dump.proofs.Coming.{start_fails, finish_fails, finish_dumps}
+use Rattle.schedule_dump.proofs.Coming.{start_fails, finish_fails, finish_dumps, is_source}
 use Rattle.schedule_dump.proofs.run.dump_beside.Goals as goal
 
 pub returns-in-Err-clause-comes : goal.returns-in-Err-clause-comes
@@ -29,11 +29,16 @@ returns-in-Ok-finish-clause-comes g c s first formed w =
     let b = (g.K.Sink.end c.start.new.sink).bytes in
     let d = (g.R.Sink.end c.args.report.now).bytes in
     let v = c.in-Ok-run_beside.ensures.runs s (record { output = a; report = first }) (goes_first s c.args.store c.in-Ok.dump (each numbered c.args.lines) a b first d c.in-Ok.ensures.begun c.in-Ok.ensures.ok w) in
-    finish_dumps s c.run_beside.new.store c.run_beside.new.dump (record { output = a; report = first }) (g.K.Sink.end c.run_beside.new.output) (g.R.Sink.end c.run_beside.new.report) v c.in-Ok-finish.report c.finish.new.self (g.K.Sink.end c.finish.new.sink)
-    c.done_is_healed_before.ensures formed (c.in-Ok-finish.ensures.finishes s.caps v.at (v.reached.good [] [] refl) v.reached.stands v.meets)
+    let x : Ends = record { output = a; report = first } in
+    let p = g.K.Sink.end c.run_beside.new.output in
+    let q = g.R.Sink.end c.run_beside.new.report in (
+      finish_dumps s c.run_beside.new.store c.run_beside.new.dump x p q v c.in-Ok-finish.report c.finish.new.self (g.K.Sink.end c.finish.new.sink) c.done_is_healed_before.ensures formed
+          (c.in-Ok-finish.ensures.finishes s.caps v.at (v.reached.good [] [] refl) v.reached.stands v.meets),
+      is_source s c.run_beside.new.store c.run_beside.new.dump x p q v,
+    )
 
-pub returns-clause-comes : goal.returns-clause-comes
-returns-clause-comes g c s first formed w =
+pub returns-in-Err-finish-clause-comes : goal.returns-in-Err-finish-clause-comes
+returns-in-Err-finish-clause-comes g c s first formed w =
     let a = (g.K.Sink.end c.args.output.now).bytes in
     let b = (g.K.Sink.end c.start.new.sink).bytes in
     let d = (g.R.Sink.end c.args.report.now).bytes in
