@@ -19,7 +19,7 @@ use Rattle.store_core.specs.Stores.{Stored, StandsAt}
 use Rattle.schedule_source.specs.declared.run.RefusedLine.{RefusedLine}
 use Rattle.schedule_source.specs.declared.run.SourceRun.{SourceRun}
 use Rattle.schedule_source.specs.Commands.{RunsBefore, made_before}
-use Rattle.schedule_source.specs.Progress.{Progress, at_first, with_made, behind_command, behind_line, behind_lines, refusal_in, Advances, Reached, RunsTo, Makes, Reaches}
+use Rattle.schedule_source.specs.Progress.{Progress, at_first, with_made, behind_command, behind_line, behind_lines, refusal_in, Advances, Reached, RunsTo, Makes}
 
 -- ---- the source from a line on
 
@@ -186,17 +186,3 @@ was_run l i c old new p g t u = subst (RunsTo new) (sym (line_is l i c p (sym t.
 pub advances : (l : Option Ts) (x : ℕ × Line) (old new : SourceRun) → ((p : Progress) → RunsTo old p → RunsTo new (behind_line l x p)) → Advances l x old new
 unfolding Advances
 advances l x old new f = f
-
--- ---- the lines of a schedule in turn
-
-pub reaches_first : (l : Option Ts) (s : Schedule) (r : SourceRun) (left : List (ℕ × Line)) → left ≡ s.lines → RunsTo r (at_first s.caps) → Reaches l s r left
-unfolding Reaches
-reaches_first l s r left e t = (at_first s.caps, t, ap (λ (xs : List (ℕ × Line)). behind_lines l xs (at_first s.caps)) e)
-
-pub reaches_next : (l : Option Ts) (s : Schedule) (old new : SourceRun) (line : ℕ × Line) (left more : List (ℕ × Line)) → more ≡ line ∷ left → Advances l line old new → Reaches l s old more → Reaches l s new left
-unfolding Reaches Advances
-reaches_next l s old new line left more e f w = (behind_line l line w.0, f w.0 w.1, sym (ap (λ (xs : List (ℕ × Line)). behind_lines l xs w.0) e) ∙ w.2)
-
-pub reaches_end : (l : Option Ts) (s : Schedule) (r : SourceRun) (left : List (ℕ × Line)) → left ≡ [] → ((k : Option Ts) (t : Schedule) → state (history_of (source k t).made) ≡ before t k) → Reaches l s r left → Makes l s r
-unfolding Reaches
-reaches_end l s r left e law w = makes_all l s r law (subst (RunsTo r) (sym (ap (λ (xs : List (ℕ × Line)). behind_lines l xs w.0) e) ∙ w.2) w.1)

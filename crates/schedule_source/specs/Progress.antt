@@ -63,7 +63,3 @@ Advances l line old new = (p : Progress) → RunsTo old p → RunsTo new (behind
 pub record Makes (l : Option Ts) (s : Schedule) (r : SourceRun) : Type 0 where
   pub makes : state_of r.store.rows ≡ before s l
   pub refuses : each refusal_in r.refused ≡ (source l s).refused
-
--- a run came so far that these lines are left of the schedule
-unfoldable pub Reaches : Option Ts → Schedule → SourceRun → List (ℕ × Line) → Type 0
-Reaches l s r left = (p : Progress) × RunsTo r p × (behind_lines l left p ≡ behind_lines l s.lines (at_first s.caps))

@@ -4,8 +4,6 @@
 mod command;
 mod input;
 mod run;
-mod schedule;
 
 pub use input::run_input;
 pub use run::{RefusedLine, SourceRun};
-pub use schedule::source;
